@@ -12,7 +12,7 @@ use std::marker::Model;
 const LIMIT: u64 = 1_048_576;
 
 /// What a byte, or the script's end, brought.
-#[derive(Clone, Copy, Debug, PartialEq, Eq)]
+#[derive(Clone, Copy)]
 pub enum SplitStep {
     /// It ended no piece.
     More,
@@ -25,7 +25,7 @@ pub enum SplitStep {
 }
 
 /// Where a byte stands, by the bytes before it.
-#[derive(Clone, Copy, Debug, PartialEq, Eq)]
+#[derive(Clone, Copy)]
 enum Place {
     Outside,
     /// Outside, and a second `-` opens a comment.
@@ -74,7 +74,7 @@ impl Place {
 
 /// Cuts a script into statements, with memory for one of them. A text runs from a `'` to the next that no `\` escapes;
 /// a comment runs from `--` to the line feed, or to the script's end.
-#[derive(Debug, Drop)]
+#[derive(Drop)]
 pub struct Splitter {
     /// Where the next byte stands.
     place: Place,

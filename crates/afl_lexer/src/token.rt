@@ -3,14 +3,14 @@
 use cell_values::{Memory, Span};
 
 /// A token and its place in the text, in bytes from the text's first one.
-#[derive(Clone, Copy, Debug, PartialEq, Eq)]
+#[derive(Clone, Copy)]
 pub struct Token {
     pub kind: TokenKind,
     pub span: Span,
 }
 
 /// What a token is. The bytes of a name and the content of a text are found by the token's span.
-#[derive(Clone, Copy, Debug, PartialEq, Eq)]
+#[derive(Clone, Copy)]
 pub enum TokenKind {
     /// A letter or `_`, then letters, digits and `_`: 1 to 64 bytes, and no reserved word.
     Name,
@@ -25,7 +25,7 @@ pub enum TokenKind {
 }
 
 /// A reserved word.
-#[derive(Clone, Copy, Debug, PartialEq, Eq)]
+#[derive(Clone, Copy)]
 pub enum Word {
     And,
     Or,
@@ -39,7 +39,7 @@ pub enum Word {
 }
 
 /// A symbol.
-#[derive(Clone, Copy, Debug, PartialEq, Eq)]
+#[derive(Clone, Copy)]
 pub enum Symbol {
     /// `(`
     LeftParen,
@@ -82,7 +82,7 @@ pub enum Symbol {
 }
 
 /// Why a text stops to have tokens.
-#[derive(Clone, Copy, Debug, PartialEq, Eq)]
+#[derive(Clone, Copy)]
 pub enum LexKind {
     /// No token begins with this byte.
     UnknownCharacter,
@@ -99,7 +99,7 @@ pub enum LexKind {
 }
 
 /// Why there are no tokens.
-#[derive(Clone, Copy, Debug, PartialEq, Eq)]
+#[derive(Clone, Copy)]
 pub enum LexFault {
     /// The text stops to have tokens at this place, in bytes from its first one.
     At { at: u32, kind: LexKind },

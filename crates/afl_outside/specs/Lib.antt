@@ -1,6 +1,11 @@
 pub mod Counts
 pub mod Disk
+pub mod Files
+pub mod Images
+pub mod InMemory
+pub mod Inner
 pub mod Lemmas
+pub mod Plain
 pub mod Shelf
 pub mod Sink
 pub mod Source

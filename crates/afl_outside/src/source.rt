@@ -9,7 +9,7 @@ use std::error::Error;
 use std::fmt;
 
 /// A call failed. The object that was called has raised its count of faults, or where it has one its count of wants.
-#[derive(Clone, Copy, Debug, PartialEq, Eq)]
+#[derive(Clone, Copy, Debug)]
 pub struct Failed;
 
 impl fmt::Display for Failed {

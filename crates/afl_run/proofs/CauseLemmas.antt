@@ -28,15 +28,15 @@ use Rattle.session_threads.specs.Acts.{Course, nothing, looking, trying, making}
 use Rattle.session_threads.specs.Replies.{BeganAsNone, HasFault, IsToldFor}
 use Rattle.session_threads.specs.Reply.{Reply}
 use Rattle.run_opening.specs.Start.{Start}
-use Rattle.session_reports.specs.Outcomes.{notice_of}
-use Rattle.session_reports.specs.declared.notices.Notice.{Notice}
-use Rattle.session_reports.specs.declared.notices.Notice.TheVariants as notices
-use Rattle.session_reports.specs.declared.reports.Mark.{Mark}
-use Rattle.session_reports.specs.declared.reports.SessionEnd.{SessionEnd}
-use Rattle.session_reports.specs.declared.reports.SessionEnd.TheVariants as ends
-use Rattle.session_reports.specs.declared.reports.SessionReport.{SessionReport}
-use Rattle.session_reports.specs.declared.reports.Streams.{Streams}
-use Rattle.session_reports.proofs.OutcomeLemmas.{is_damaged, is_disk}
+use Rattle.run_opening.specs.Outcomes.{notice_of}
+use Rattle.run_opening.specs.declared.reports.notices.Notice.{Notice}
+use Rattle.run_opening.specs.declared.reports.notices.Notice.TheVariants as notices
+use Rattle.run_opening.specs.declared.reports.reports.Mark.{Mark}
+use Rattle.run_opening.specs.declared.reports.reports.SessionEnd.{SessionEnd}
+use Rattle.run_opening.specs.declared.reports.reports.SessionEnd.TheVariants as ends
+use Rattle.run_opening.specs.declared.reports.reports.SessionReport.{SessionReport}
+use Rattle.run_opening.specs.declared.reports.reports.Streams.{Streams}
+use Rattle.run_opening.proofs.OutcomeLemmas.{is_damaged, is_disk}
 use Rattle.session_threads.specs.Marked.{AnswersText, IsMarked, IsReplyOf, reply_told}
 use Rattle.session_threads.specs.Session.{AreAnswered, Replies}
 use Rattle.session_threads.specs.Sessions.{AreSessionsOf}

@@ -14,10 +14,10 @@ use Rattle.command_words.proofs.PlaceLaws.{keep_places}
 use Rattle.command_words.proofs.RangeLaws.{keep_ranges}
 use Rattle.run_opening.specs.Names.{HaveOwnNames, Word, stream_names}
 use Rattle.run_opening.proofs.NameLemmas.{device_apart, own_names}
-use Rattle.session_reports.specs.Outcomes.{notice_by as told_by, notice_of}
-use Rattle.session_reports.specs.declared.reports.SessionReport.{SessionReport}
-use Rattle.session_reports.specs.declared.notices.Notice.{Notice}
-use Rattle.session_reports.specs.declared.notices.Notice.TheVariants as notices
+use Rattle.run_opening.specs.Outcomes.{notice_by as told_by, notice_of}
+use Rattle.run_opening.specs.declared.reports.reports.SessionReport.{SessionReport}
+use Rattle.run_opening.specs.declared.reports.notices.Notice.{Notice}
+use Rattle.run_opening.specs.declared.reports.notices.Notice.TheVariants as notices
 use Rattle.session_threads.specs.Style.{Style}
 use Rattle.afl_run.specs.Generate.{RunsGenerate}
 use Rattle.afl_run.specs.Init.{TellsDevice}

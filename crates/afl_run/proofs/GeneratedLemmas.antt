@@ -4,8 +4,8 @@ use Rattle.afl_outside.specs.Counts.{Rose, risen}
 use Rattle.afl_outside.specs.Source.{IsNewSource}
 use Rattle.afl_outside.specs.Sink.{IsNewSink, SinkState}
 use Rattle.afl_outside.specs.Shelf.{LeavesOthers, ShelfState}
-use Rattle.afl_in_memory.specs.InMemory.{Reading, sure_source_state, unread}
-use Rattle.afl_in_memory.specs.Inner.Records.{SureBytes, sure_disk_moment}
+use Rattle.afl_outside.specs.InMemory.{Reading, sure_source_state, unread}
+use Rattle.afl_outside.specs.Inner.Records.{SureBytes, sure_disk_moment}
 use Rattle.afl_lexer.specs.Inner.Standing.{StandsAfter}
 use Rattle.run_opening.specs.Starts.{start_of}
 use Rattle.run_opening.specs.Began.{IsOpenedFrom}
@@ -13,11 +13,11 @@ use Rattle.run_opening.specs.declared.stores.closing.StoreRun.{StoreRun}
 use Rattle.run_opening.specs.Names.{standard}
 use Rattle.run_opening.specs.Opened.{FailsFor}
 use Rattle.event_core.specs.declared.entry.Entry.{Entry}
-use Rattle.session_reports.specs.Outcomes.{notice_of}
-use Rattle.session_reports.specs.declared.notices.Notice.{Notice}
-use Rattle.session_reports.specs.declared.notices.Notice.TheVariants as notices
-use Rattle.session_reports.specs.declared.reports.SessionReport.{SessionReport}
-use Rattle.session_reports.specs.declared.reports.Streams.{Streams}
+use Rattle.run_opening.specs.Outcomes.{notice_of}
+use Rattle.run_opening.specs.declared.reports.notices.Notice.{Notice}
+use Rattle.run_opening.specs.declared.reports.notices.Notice.TheVariants as notices
+use Rattle.run_opening.specs.declared.reports.reports.SessionReport.{SessionReport}
+use Rattle.run_opening.specs.declared.reports.reports.Streams.{Streams}
 use Rattle.store_opening.specs.declared.opening.opening.Limits.{Limits}
 use Rattle.store_state.specs.Events.{events}
 use Rattle.store_state.specs.Standings.{Standing}

@@ -4,12 +4,12 @@ use Rattle.afl_outside.specs.Counts.{Rose, risen}
 use Rattle.afl_outside.specs.Disk.{DiskGoesOn, IsNewDisk, Moment, Only}
 use Rattle.afl_outside.specs.Shelf.{LeavesOthers, ShelfState}
 use Rattle.page_file.specs.Start.{IsEmptyDatabase}
-use Rattle.page_slots.specs.Puts.{OnlySyncs}
+use Rattle.page_chain.specs.Puts.{OnlySyncs}
 use Rattle.file_meaning.proofs.Made.{made_stands}
 use Rattle.run_opening.specs.Names.{Word}
 use Rattle.run_opening.specs.Opened.{FailsToOpenDevice, IsOpenedDevice, LeavesUnasked}
-use Rattle.session_reports.specs.declared.notices.Notice.{Notice}
-use Rattle.session_reports.specs.declared.notices.Notice.TheVariants.{Done, Refused, Usage, Disk, Stream, Memory, NotDatabase, NotEmpty, Damaged}
+use Rattle.run_opening.specs.declared.reports.notices.Notice.{Notice}
+use Rattle.run_opening.specs.declared.reports.notices.Notice.TheVariants.{Done, Refused, Usage, Disk, Stream, Memory, NotDatabase, NotEmpty, Damaged}
 use Rattle.afl_run.specs.Init.{HoldsNoArrays, TellsDevice, notice_by}
 use Rattle.afl_run.specs.Inner.Making.{Makes}
 use Rattle.afl_run.specs.Run.{MakesDatabase}

@@ -10,17 +10,17 @@ use Rattle.afl_parser.specs.Outcome.{HasTreeOrStop}
 use Rattle.run_opening.specs.Start.{Start}
 use Rattle.run_opening.specs.Starts.{start_of}
 use Rattle.page_chain.proofs.RunLemmas.{goes}
-use Rattle.page_slots.specs.Puts.{OnlySyncs}
+use Rattle.page_chain.specs.Puts.{OnlySyncs}
 use Rattle.turn_lock.specs.Owners.{AreOwnedBelow, ExtendsByOthers, is_owned_below, none_of}
 use Rattle.store_opening.specs.declared.opening.opening.Limits.{Limits}
 use Rattle.store_state.specs.declared.state.event.Event.{Event}
 use Rattle.store_state.specs.Events.{events, owner_of}
 use Rattle.store_state.specs.Standings.{BeganAs, Standing}
-use Rattle.session_reports.specs.Outcomes.{notice_of}
-use Rattle.session_reports.specs.declared.notices.Notice.{Notice}
-use Rattle.session_reports.specs.declared.notices.Notice.TheVariants.{Memory}
-use Rattle.session_reports.specs.declared.reports.SessionReport.{SessionReport}
-use Rattle.session_reports.specs.declared.reports.Streams.{Streams}
+use Rattle.run_opening.specs.Outcomes.{notice_of}
+use Rattle.run_opening.specs.declared.reports.notices.Notice.{Notice}
+use Rattle.run_opening.specs.declared.reports.notices.Notice.TheVariants.{Memory}
+use Rattle.run_opening.specs.declared.reports.reports.SessionReport.{SessionReport}
+use Rattle.run_opening.specs.declared.reports.reports.Streams.{Streams}
 use Rattle.session_threads.specs.Sessions.{AreSessionsOf}
 use Rattle.session_threads.specs.Style.{Style}
 use Rattle.run_opening.specs.Began.{BeganOver, TellsUnopened}

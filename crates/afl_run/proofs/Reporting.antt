@@ -11,8 +11,8 @@ use Rattle.session_threads.specs.Session.{AnswerRule, Serves}
 use Rattle.store_state.specs.declared.state.event.Event.{Event}
 use Rattle.run_opening.specs.Names.{Word, reply_name}
 use Rattle.run_opening.specs.Opened.{IsSinkOf, IsSourceOf}
-use Rattle.session_reports.specs.declared.reports.Mark.{Mark}
-use Rattle.session_reports.specs.declared.reports.SessionEnd.{SessionEnd}
+use Rattle.run_opening.specs.declared.reports.reports.Mark.{Mark}
+use Rattle.run_opening.specs.declared.reports.reports.SessionEnd.{SessionEnd}
 use Rattle.afl_run.specs.Printed.{IsOpenedAs, Prints}
 
 -- a source that told its first bytes has left what it did not give

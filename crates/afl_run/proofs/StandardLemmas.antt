@@ -5,7 +5,7 @@ use Rattle.afl_outside.specs.Disk.{DiskGoesOn, Moment, Only}
 use Rattle.afl_outside.specs.Source.{SourceState}
 use Rattle.afl_outside.specs.Sink.{SinkState}
 use Rattle.afl_outside.specs.Shelf.{ShelfState}
-use Rattle.afl_in_memory.specs.Inner.Records.{SureBytes, sure_disk_moment}
+use Rattle.afl_outside.specs.Inner.Records.{SureBytes, sure_disk_moment}
 use Rattle.run_opening.specs.Starts.{start_of}
 use Rattle.file_meaning.proofs.Made.{made_stands, opened_is}
 use Rattle.file_meaning.specs.Opening.{IsWrongAt}
@@ -17,11 +17,11 @@ use Rattle.run_opening.specs.Names.{Word, reply_name, standard, stream_names}
 use Rattle.run_opening.specs.Opened.{AreOpenedFor, FailsToOpen, HandsOut, HandsOutSome, IsOpenedFor, IsUnopened, LeavesUnasked, StopsAt}
 use Rattle.run_opening.specs.Began.{BeganOver, IsOpenedFrom, TellsUnopened}
 use Rattle.run_opening.specs.declared.stores.closing.StoreRun.{StoreRun}
-use Rattle.session_reports.specs.declared.notices.Notice.{Notice}
-use Rattle.session_reports.specs.declared.notices.Notice.TheVariants as notices
-use Rattle.session_reports.specs.Outcomes.{notice_by as told_by, notice_of}
-use Rattle.session_reports.specs.declared.reports.SessionReport.{SessionReport}
-use Rattle.session_reports.specs.declared.reports.Streams.{Streams}
+use Rattle.run_opening.specs.declared.reports.notices.Notice.{Notice}
+use Rattle.run_opening.specs.declared.reports.notices.Notice.TheVariants as notices
+use Rattle.run_opening.specs.Outcomes.{notice_by as told_by, notice_of}
+use Rattle.run_opening.specs.declared.reports.reports.SessionReport.{SessionReport}
+use Rattle.run_opening.specs.declared.reports.reports.Streams.{Streams}
 use Rattle.afl_run.specs.OneHistory.{HasCause}
 use Rattle.afl_run.specs.Run.{IsOfAnswers, RunsTry, plain}
 use Rattle.afl_run.specs.Inner.Making.{IsEmpty, Makes}

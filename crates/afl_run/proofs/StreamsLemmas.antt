@@ -20,13 +20,13 @@ use Rattle.run_opening.specs.Opened.{AreOpenedFor, FailsToOpen, FailsToOpenDevic
 use Rattle.run_opening.proofs.OpeningLemmas.{back_all, front_all}
 use Rattle.run_opening.specs.Began.{IsOpenedFrom, TellsUnopened}
 use Rattle.run_opening.specs.declared.stores.closing.StoreRun.{StoreRun}
-use Rattle.session_reports.proofs.OutcomeLemmas.{is_stream}
-use Rattle.session_reports.specs.Outcomes.{IsFirst}
-use Rattle.session_reports.specs.declared.reports.SessionEnd.TheVariants as ends
-use Rattle.session_reports.specs.declared.reports.SessionReport.{SessionReport}
-use Rattle.session_reports.specs.declared.reports.Streams.{Streams}
-use Rattle.session_reports.specs.declared.notices.Notice.{Notice}
-use Rattle.session_reports.specs.declared.notices.Notice.TheVariants as notices
+use Rattle.run_opening.proofs.OutcomeLemmas.{is_stream}
+use Rattle.run_opening.specs.Outcomes.{IsFirst}
+use Rattle.run_opening.specs.declared.reports.reports.SessionEnd.TheVariants as ends
+use Rattle.run_opening.specs.declared.reports.reports.SessionReport.{SessionReport}
+use Rattle.run_opening.specs.declared.reports.reports.Streams.{Streams}
+use Rattle.run_opening.specs.declared.reports.notices.Notice.{Notice}
+use Rattle.run_opening.specs.declared.reports.notices.Notice.TheVariants as notices
 use Rattle.session_threads.specs.Sessions.{AreSessionsOf, IsSessionOf}
 use Rattle.session_threads.specs.Style.{Style}
 use Rattle.afl_run.specs.OneHistory.{IsOneHistory, IsReportOf}

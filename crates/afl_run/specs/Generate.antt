@@ -9,9 +9,9 @@ use Rattle.event_core.specs.declared.entry.Entry.{Entry}
 use Rattle.store_state.specs.Standings.{Standing}
 use Rattle.run_opening.specs.Names.{standard}
 use Rattle.run_opening.specs.Opened.{FailsFor}
-use Rattle.session_reports.specs.declared.reports.SessionReport.{SessionReport}
-use Rattle.session_reports.specs.declared.notices.Notice.{Notice}
-use Rattle.session_reports.specs.declared.notices.Notice.TheVariants as notices
+use Rattle.run_opening.specs.declared.reports.reports.SessionReport.{SessionReport}
+use Rattle.run_opening.specs.declared.reports.notices.Notice.{Notice}
+use Rattle.run_opening.specs.declared.reports.notices.Notice.TheVariants as notices
 use Rattle.afl_run.specs.OneHistory.{IsOneHistory}
 use Rattle.afl_run.specs.Run.{BeganEmpty, HandsOutStreams, IsOfAnswers, TellsSessions, plain}
 

@@ -4,8 +4,8 @@ use Rattle.afl_outside.specs.Counts.{Rose}
 use Rattle.afl_outside.specs.Disk.{Moment, Only}
 use Rattle.page_file.specs.Start.{IsEmptyDatabase}
 use Rattle.file_meaning.specs.Standing.{Stands}
-use Rattle.session_reports.specs.declared.notices.Notice.{Notice}
-use Rattle.session_reports.specs.declared.notices.Notice.TheVariants.{Done, Disk, Memory, NotEmpty}
+use Rattle.run_opening.specs.declared.reports.notices.Notice.{Notice}
+use Rattle.run_opening.specs.declared.reports.notices.Notice.TheVariants.{Done, Disk, Memory, NotEmpty}
 
 -- the disk reads as this file of three pages, which stands for no arrays, and a crash leaves nothing else
 pub record HoldsNoArrays (file : List ℕ) (disk : Moment) : Type 0 where

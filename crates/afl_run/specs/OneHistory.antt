@@ -18,9 +18,9 @@ use Rattle.store_state.specs.Payloads.{HasPayloads, HasTold}
 use Rattle.store_state.specs.Standings.{BeganAs, Standing, given_of}
 use Rattle.store_state.specs.Inner.Keeping.{AreCounted}
 use Rattle.session_threads.specs.Told.{is_sealed}
-use Rattle.session_reports.specs.declared.reports.SessionReport.{SessionReport}
-use Rattle.session_reports.specs.declared.notices.Notice.{Notice}
-use Rattle.session_reports.specs.declared.notices.Notice.TheVariants.{Damaged, Disk, Memory, Stream}
+use Rattle.run_opening.specs.declared.reports.reports.SessionReport.{SessionReport}
+use Rattle.run_opening.specs.declared.reports.notices.Notice.{Notice}
+use Rattle.run_opening.specs.declared.reports.notices.Notice.TheVariants.{Damaged, Disk, Memory, Stream}
 use Rattle.session_threads.specs.Histories.{IsMarkedIn}
 use Rattle.session_threads.specs.Marked.{IsMarked}
 use Rattle.session_threads.specs.Style.{Style}

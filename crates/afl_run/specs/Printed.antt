@@ -8,9 +8,9 @@ use Rattle.afl_outside.specs.Shelf.{ShelfState}
 use Rattle.session_threads.specs.Session.{AnswerRule, LeavesOne, Replies, decided}
 use Rattle.store_state.specs.declared.state.event.Event.{Event}
 use Rattle.run_opening.specs.Names.{Word, reply_name}
-use Rattle.session_reports.specs.declared.reports.Mark.{Mark}
-use Rattle.session_reports.specs.declared.reports.SessionEnd.{SessionEnd}
-use Rattle.session_reports.specs.declared.reports.SessionEnd.TheVariants.{Source, Sink, Memory}
+use Rattle.run_opening.specs.declared.reports.reports.Mark.{Mark}
+use Rattle.run_opening.specs.declared.reports.reports.SessionEnd.{SessionEnd}
+use Rattle.run_opening.specs.declared.reports.reports.SessionEnd.TheVariants.{Source, Sink, Memory}
 
 -- the source has the name of the script, and the sink that of its reply, where they tell names; and they began as the shelf told
 pub record IsOpenedAs (shelf : ShelfState) (script : Word) (source : SourceState) (sink : SinkState) : Type 0 where

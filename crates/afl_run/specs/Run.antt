@@ -11,10 +11,10 @@ use Rattle.file_meaning.specs.Opening.{IsWrongAt}
 use Rattle.store_state.specs.Standings.{BeganAs, Standing}
 use Rattle.run_opening.specs.Names.{Word, standard, stream_names}
 use Rattle.run_opening.specs.Opened.{FailsToOpen, FailsToOpenDevice, HandsOut, IsOpenedDevice, LeavesUnasked, StopsAt}
-use Rattle.session_reports.specs.Outcomes.{notice_of}
-use Rattle.session_reports.specs.declared.reports.SessionReport.{SessionReport}
-use Rattle.session_reports.specs.declared.notices.Notice.{Notice}
-use Rattle.session_reports.specs.declared.notices.Notice.TheVariants as notices
+use Rattle.run_opening.specs.Outcomes.{notice_of}
+use Rattle.run_opening.specs.declared.reports.reports.SessionReport.{SessionReport}
+use Rattle.run_opening.specs.declared.reports.notices.Notice.{Notice}
+use Rattle.run_opening.specs.declared.reports.notices.Notice.TheVariants as notices
 use Rattle.run_opening.specs.Began.{IsOpenedFrom}
 use Rattle.run_opening.specs.Starts.{start_of}
 use Rattle.session_threads.specs.Style.{Style}

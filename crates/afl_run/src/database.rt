@@ -1,16 +1,15 @@
 //! An empty device is made a database.
 ghost use Rattle.std.specs.Prelude.{◌≡◌, ◌≢◌, [], length, IsSome, IfSome};
 ghost use Rattle.afl_outside.specs.Disk.{DiskGoesOn};
-ghost use Rattle.page_slots.specs.Puts.{OnlySyncs};
-ghost use Rattle.session_reports.specs.Notice.{status_of};
+ghost use Rattle.page_chain.specs.Puts.{OnlySyncs};
+ghost use Rattle.run_opening.specs.Notice.{status_of};
 ghost use Rattle.afl_run.specs.Inner.Making.{Makes};
 ghost use Rattle.afl_run.specs.Run.{MakesDatabase};
 
 use crate::report::{Report, unrun};
 use afl_outside::{Disk, Shelf};
 use page_file::{InitFault, init};
-use run_opening::open_device;
-use session_reports::Notice;
+use run_opening::{Notice, open_device};
 use std::alloc::Global;
 
 /// Makes the device of this name, which must be empty, a database with no array.

@@ -11,5 +11,5 @@ mod top;
 
 pub use command_words::Arg;
 pub use report::{Report, let_go_report};
-pub use session_reports::{Mark, Notice, Refusal, SessionEnd, SessionReport, notice_line};
+pub use run_opening::{Mark, Notice, Refusal, SessionEnd, SessionReport, notice_line};
 pub use top::run;

@@ -10,8 +10,8 @@ ghost use Rattle.afl_run.specs.Inner.Over.{IsUnrun, LacksMemory, RunsOver, RunsT
 use afl_outside::{Disk, Gate, Sink, Source};
 use afl_parser::texts_have_tree_or_stop;
 use cell_values::{List, Memory};
-use run_opening::{Limits, Store, StoreRun, close_store, open_store};
-use session_reports::{Notice, Streams};
+use event_core::let_go_entries;
+use run_opening::{Limits, Notice, Store, StoreRun, Streams, close_store, open_store};
 use session_threads::{Options, run_sessions};
 use std::alloc::Global;
 use std::sync::Wait;
@@ -90,7 +90,7 @@ fn run_store<
         Err((Memory, store, streams)) => {
             drop(streams);
             let (disk, entries) = store.close();
-            drop(entries);
+            let_go_entries(entries);
             unrun(alloc, Notice::Memory, disk)
         }
     }

@@ -1,12 +1,11 @@
 //! What a run reports.
 ghost use Rattle.std.specs.Prelude.{◌≡◌, []};
-ghost use Rattle.session_reports.specs.Notice.{status_of};
+ghost use Rattle.run_opening.specs.Notice.{status_of};
 
-use afl_in_memory::SureSource;
-use afl_outside::Shelf;
+use afl_outside::{Shelf, SureSource};
 use cell_values::List;
-use event_core::Entry;
-use session_reports::{Notice, SessionReport, status};
+use event_core::{Entry, let_go_entries};
+use run_opening::{Notice, SessionReport, status};
 use std::alloc::Global;
 
 /// A run at its end.
@@ -28,9 +27,23 @@ pub struct Report<F: Shelf> {
     pub shelf: F,
 }
 
-/// Lets a report go. That its entries can be let go is proved here once, and not again in each program.
+/// Lets a report go. That it can be let go is proved here once, and not again in each program.
 pub fn let_go_report<F: Shelf + Drop>(report: Report<F>) {
-    drop(report);
+    let Report {
+        status: _,
+        notice: _,
+        history,
+        sessions,
+        generated,
+        free_pages: _,
+        disk,
+        shelf,
+    } = report;
+    let_go_entries(history);
+    drop(sessions);
+    drop(generated);
+    drop(disk);
+    drop(shelf);
 }
 
 /// A report of a run in which no session ran.

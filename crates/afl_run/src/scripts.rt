@@ -1,7 +1,7 @@
 //! Sessions over a device.
 ghost use Rattle.std.specs.Prelude.{◌≡◌, ◌≢◌, ◌≤◌, All, Some, length};
 ghost use Rattle.run_opening.specs.Names.{HaveOwnNames, stream_names};
-ghost use Rattle.session_reports.specs.Notice.{status_of};
+ghost use Rattle.run_opening.specs.Notice.{status_of};
 ghost use Rattle.afl_run.specs.Run.{RunsScripts};
 ghost use Rattle.afl_run.specs.Inner.Streams.{IsAsBegun, RunsOn};
 
@@ -9,8 +9,7 @@ use crate::over::run_over;
 use crate::report::{Report, unrun};
 use afl_outside::{Gate, Shelf};
 use command_words::Arg;
-use run_opening::{Limits, StoreRun, open_device, open_streams};
-use session_reports::status;
+use run_opening::{Limits, StoreRun, open_device, open_streams, status};
 use session_threads::Options;
 use std::alloc::Global;
 use std::sync::Wait;

@@ -1,7 +1,7 @@
 //! One session over an empty database in memory.
 ghost use Rattle.std.specs.Prelude.{◌≡◌, ◌∷◌, [], IfOk, None};
-ghost use Rattle.session_reports.specs.Notice.{status_of};
-ghost use Rattle.afl_in_memory.specs.Inner.Records.{sure_disk_moment};
+ghost use Rattle.run_opening.specs.Notice.{status_of};
+ghost use Rattle.afl_outside.specs.Inner.Records.{sure_disk_moment};
 ghost use Rattle.run_opening.specs.Names.{standard};
 ghost use Rattle.afl_run.specs.Inner.Making.{IsEmpty};
 ghost use Rattle.afl_run.specs.Run.{RunsTry};
@@ -9,12 +9,10 @@ ghost use Rattle.afl_run.specs.Run.{RunsTry};
 use crate::database::make;
 use crate::over::run_over;
 use crate::report::{Report, unrun};
-use afl_in_memory::SureDisk;
-use afl_outside::{Gate, Shelf};
+use afl_outside::{Gate, Shelf, SureDisk};
 use cell_values::{Bytes, Memory};
 use command_words::Arg;
-use run_opening::{Limits, StoreRun, open_streams};
-use session_reports::{Notice, status};
+use run_opening::{Limits, Notice, StoreRun, open_streams, status};
 use session_threads::{Options, Style};
 use std::alloc::Global;
 use std::sync::Wait;

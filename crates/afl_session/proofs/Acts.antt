@@ -10,14 +10,14 @@ use Rattle.store_ledger.specs.declared.note.NoteKind.TheVariants.{Fault, Tried}
 use Rattle.store_ledger.specs.Ledger.{is_fault, is_noted}
 use Rattle.store_state.specs.declared.state.event.Event.{Event}
 use Rattle.store_state.specs.declared.state.event.Event.TheVariants.{Entered, Acknowledged, Noted}
-use Rattle.session_sources.specs.Turns.{leaves_notes_of, leaves_pin_of}
+use Rattle.snapshot_manager.specs.Turns.{leaves_notes_of, leaves_pin_of}
 use Rattle.afl_session.specs.Acts.{Act, Course, acts_for, acts_in, acts_of_note, begins, ends, tries, makes, nothing, looking, trying, making}
 use Rattle.afl_session.specs.Replies.{HasFault}
-use Rattle.session_sources.specs.Start.{Start}
+use Rattle.snapshot_manager.specs.Start.{Start}
 use Rattle.afl_session.proofs.ActsJoined.{acts_join}
-use Rattle.session_sources.specs.Courses.{AddsOwn, IsFaultAtMost}
-use Rattle.session_sources.specs.Told.{ledger_of}
-use Rattle.session_sources.proofs.CourseLaws.{courses_keep_notes}
+use Rattle.snapshot_manager.specs.Courses.{AddsOwn, IsFaultAtMost}
+use Rattle.snapshot_manager.specs.Told.{ledger_of}
+use Rattle.snapshot_manager.proofs.CourseLaws.{courses_keep_notes}
 
 -- ---- a statement does nothing between its pin and its unpin but try and make a commit
 

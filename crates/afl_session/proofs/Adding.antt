@@ -7,17 +7,17 @@ use Rattle.plan_changes.specs.declared.change.Change.{Change}
 use Rattle.event_core.specs.declared.entry.Entry.{Entry}
 use Rattle.event_core.specs.declared.entry.Entry.TheVariants.{Pin, Unpin, Commit, Reap}
 use Rattle.event_core.proofs.Tests.{both_not}
-use Rattle.session_sources.specs.Owners.{only_of}
+use Rattle.snapshot_manager.specs.Owners.{only_of}
 use Rattle.store_ledger.specs.Ledger.{LedgerState}
 use Rattle.store_state.specs.declared.state.event.Event.{Event}
 use Rattle.store_state.specs.declared.state.event.Event.TheVariants.{Entered, Acknowledged, Noted}
 use Rattle.store_state.specs.Events.{owner_of}
-use Rattle.session_sources.specs.Growth.{tried_events}
-use Rattle.session_sources.specs.Tried.{IsFaultOrNone}
-use Rattle.session_sources.specs.Turns.{leaves_pin_of, own_events}
-use Rattle.session_sources.proofs.Telling.{entries_in-append}
-use Rattle.session_sources.specs.Courses.{IsFaultAtMost}
-use Rattle.session_sources.specs.Told.{entries_in}
+use Rattle.snapshot_manager.specs.Growth.{tried_events}
+use Rattle.snapshot_manager.specs.Tried.{IsFaultOrNone}
+use Rattle.snapshot_manager.specs.Turns.{leaves_pin_of, own_events}
+use Rattle.snapshot_manager.proofs.Telling.{entries_in-append}
+use Rattle.snapshot_manager.specs.Courses.{IsFaultAtMost}
+use Rattle.snapshot_manager.specs.Told.{entries_in}
 use Rattle.afl_session.specs.Acts.{Act, acts_in, acts_of_note, begins, ends, makes, tries}
 use Rattle.afl_session.proofs.ActsJoined.{acts_join}
 

@@ -24,7 +24,7 @@ use Rattle.statement_replies.proofs.Saying.{changes_refused}
 use Rattle.statement_replies.specs.declared.replies.replies.Reply.{Reply as Told}
 use Rattle.statement_replies.specs.Reply.{refused}
 use Rattle.statement_replies.specs.declared.replies.style.Style.{Style}
-use Rattle.session_sources.specs.Turn.{Turn}
+use Rattle.snapshot_manager.specs.Turn.{Turn}
 use Rattle.store_ledger.specs.declared.pinned.Pinned.{Pinned}
 use Rattle.store_ledger.specs.Ledger.{LedgerState, IsOpenPin, is_fault, is_noted}
 use Rattle.store_state.specs.declared.state.event.Event.{Event}
@@ -34,22 +34,22 @@ use Rattle.store_state.specs.Calls.{history_at, payload_at, IsLeafOf}
 use Rattle.store_state.specs.Events.{events}
 use Rattle.store_state.specs.Payloads.{HasTold, WasDamagedAt}
 use Rattle.store_state.specs.Standings.{base_of, Standing}
-use Rattle.session_sources.specs.Growth.{tried_events}
-use Rattle.session_sources.specs.Tried.{AddsSealed, AddsTried}
-use Rattle.session_sources.specs.Causes.{FitsAfter, IsUncommitted}
-use Rattle.session_sources.specs.CommitFault.{CommitFault}
-use Rattle.session_sources.specs.CommitFault.TheVariants as faults
-use Rattle.session_sources.specs.Starts.{start_of}
-use Rattle.session_sources.specs.Turns.{leaves_pin_of}
-use Rattle.session_sources.proofs.Sights.{pins_outlast}
-use Rattle.session_sources.proofs.Telling.{entries_are, entries_in-append}
-use Rattle.session_sources.proofs.TriedTurns.{cause_told, fits_told, next_told}
-use Rattle.session_sources.specs.Databases.{HasDatabase}
-use Rattle.session_sources.specs.Held.{names_now}
-use Rattle.session_sources.specs.Seats.{store_of}
-use Rattle.session_sources.specs.Start.{Start}
-use Rattle.session_sources.specs.Stored.{BeginsDamage}
-use Rattle.session_sources.specs.Told.{entries_in, ledger_of, told, IsTold}
+use Rattle.snapshot_manager.specs.Growth.{tried_events}
+use Rattle.snapshot_manager.specs.Tried.{AddsSealed, AddsTried}
+use Rattle.snapshot_manager.specs.Causes.{FitsAfter, IsUncommitted}
+use Rattle.snapshot_manager.specs.CommitFault.{CommitFault}
+use Rattle.snapshot_manager.specs.CommitFault.TheVariants as faults
+use Rattle.snapshot_manager.specs.Starts.{start_of}
+use Rattle.snapshot_manager.specs.Turns.{leaves_pin_of}
+use Rattle.snapshot_manager.proofs.Sights.{pins_outlast}
+use Rattle.snapshot_manager.proofs.Telling.{entries_are, entries_in-append}
+use Rattle.snapshot_manager.proofs.TriedTurns.{cause_told, fits_told, next_told}
+use Rattle.snapshot_manager.specs.Databases.{HasDatabase}
+use Rattle.snapshot_manager.specs.Held.{names_now}
+use Rattle.snapshot_manager.specs.Seats.{store_of}
+use Rattle.snapshot_manager.specs.Start.{Start}
+use Rattle.snapshot_manager.specs.Stored.{BeginsDamage}
+use Rattle.snapshot_manager.specs.Told.{entries_in, ledger_of, told, IsTold}
 use Rattle.afl_session.specs.Refusals.{IsUncommittedReply, IsUnreadReply, IsWant, Refuses}
 use Rattle.afl_session.proofs.Staying.{says_later}
 use Rattle.afl_session.specs.Acts.{acts_in, looking, making, makes, tries, trying}

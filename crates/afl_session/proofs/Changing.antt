@@ -7,7 +7,7 @@ use Rattle.plan_changes.specs.declared.change.Change.{Change}
 use Rattle.plan_changes.specs.Databases.{Database}
 use Rattle.event_core.specs.Cells.{at}
 use Rattle.event_core.specs.History.{History}
-use Rattle.session_sources.specs.Prepared.{MayBeMade}
+use Rattle.snapshot_manager.specs.Prepared.{MayBeMade}
 use Rattle.statement_replies.specs.declared.answers.outcome.Outcome.TheVariants.{Changes}
 use Rattle.statement_replies.specs.Outcomes.{IsMadeOf}
 use Rattle.statement_replies.specs.declared.replies.replies.Reply.{Reply as Told}
@@ -16,14 +16,14 @@ use Rattle.store_ledger.specs.Ledger.{is_noted, is_tried}
 use Rattle.store_state.specs.declared.state.event.Event.{Event}
 use Rattle.store_state.specs.Calls.{database_with}
 use Rattle.store_state.specs.Standings.{BeganAs}
-use Rattle.session_sources.specs.Start.{Start}
-use Rattle.session_sources.specs.Told.{entries_in, told}
-use Rattle.session_sources.specs.Seats.{ledger_seen, seen, start}
+use Rattle.snapshot_manager.specs.Start.{Start}
+use Rattle.snapshot_manager.specs.Told.{entries_in, told}
+use Rattle.snapshot_manager.specs.Seats.{ledger_seen, seen, start}
 use Rattle.afl_session.specs.Replies.{Says, SaysChange}
 use Rattle.afl_session.proofs.Beginnings.{history_stays}
 use Rattle.afl_session.proofs.Staying.{change_later, says_later}
-use Rattle.session_sources.specs.declared.reading.Reading.{Reading}
-use Rattle.session_sources.specs.Pinned.{unread, HasRead}
+use Rattle.snapshot_manager.specs.declared.sources.reading.Reading.{Reading}
+use Rattle.snapshot_manager.specs.Pinned.{unread, HasRead}
 use Rattle.afl_session.specs.Changing.{HasOutcomesChange, ReadChangesMayBeCommitted}
 use Rattle.afl_session.specs.Said.{IsSaid}
 use Rattle.afl_session.specs.Under.{WasPinned}

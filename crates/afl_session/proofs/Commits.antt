@@ -25,21 +25,21 @@ use Rattle.store_state.specs.declared.state.event.Event.{Event}
 use Rattle.store_state.specs.declared.state.event.Event.TheVariants.{Acknowledged}
 use Rattle.store_state.specs.Calls.{history_at}
 use Rattle.store_state.specs.Standings.{base_of}
-use Rattle.session_sources.specs.Causes.{FitsAfter, IsUncommitted}
-use Rattle.session_sources.specs.CommitFault.{CommitFault}
-use Rattle.session_sources.specs.CommitFault.TheVariants as faults
-use Rattle.session_sources.specs.Tries.{MakesCommit, TriesCommit}
-use Rattle.session_sources.specs.Turns.{own_events, Adds}
-use Rattle.session_sources.proofs.Telling.{entries_in-append}
+use Rattle.snapshot_manager.specs.Causes.{FitsAfter, IsUncommitted}
+use Rattle.snapshot_manager.specs.CommitFault.{CommitFault}
+use Rattle.snapshot_manager.specs.CommitFault.TheVariants as faults
+use Rattle.snapshot_manager.specs.Tries.{MakesCommit, TriesCommit}
+use Rattle.snapshot_manager.specs.Turns.{own_events, Adds}
+use Rattle.snapshot_manager.proofs.Telling.{entries_in-append}
 use Rattle.afl_session.specs.Acts.{Act, acts_for, acts_in, begins, ends, makes, trying, making}
 use Rattle.afl_session.specs.Fresh.{IsNamedAt}
 use Rattle.afl_session.specs.Refusals.{IsUncommittedReply, IsWant, Refuses}
 use Rattle.afl_session.specs.Replies.{names_before, words_of, HadRoomFor, HasLine, HoldsSincePin, IsToldFor, Says, SaysChange, WasAt}
 use Rattle.afl_session.specs.declared.replies.reply.Reply.{Reply}
-use Rattle.session_sources.specs.Courses.{AddsOwn}
-use Rattle.session_sources.specs.Start.{Start}
-use Rattle.session_sources.specs.Told.{entries_in, ledger_of, told}
-use Rattle.session_sources.proofs.CourseLaws.{courses_join, courses_keep_notes, turns_are_courses}
+use Rattle.snapshot_manager.specs.Courses.{AddsOwn}
+use Rattle.snapshot_manager.specs.Start.{Start}
+use Rattle.snapshot_manager.specs.Told.{entries_in, ledger_of, told}
+use Rattle.snapshot_manager.proofs.CourseLaws.{courses_join, courses_keep_notes, turns_are_courses}
 use Rattle.afl_session.proofs.Behind.{names_behind}
 use Rattle.afl_session.specs.AnsweredUnder.{IsAnsweredInTurn, IsAnsweredUnder}
 use Rattle.afl_session.specs.Inner.Steps.{AddsNoAct}

@@ -34,8 +34,8 @@ use Rattle.store_ledger.specs.declared.pinned.Pinned.{Pinned}
 use Rattle.store_ledger.specs.Ledger.{IsOpenPin}
 use Rattle.store_state.specs.declared.state.event.Event.{Event}
 use Rattle.store_state.specs.Calls.{chunks_at, database_with}
-use Rattle.session_sources.specs.Seat.{Seat}
-use Rattle.session_sources.specs.Shared.{Shared}
+use Rattle.snapshot_manager.specs.declared.seat.Seat.{Seat}
+use Rattle.snapshot_manager.specs.declared.shared.Shared.{Shared}
 use Rattle.afl_session.specs.declared.replies.reply.Reply.{Reply}
 use Rattle.afl_session.specs.Refusals.{IsUnreadReply, IsWant, Refuses}
 use Rattle.afl_session.specs.Replies.{names_before}
@@ -44,11 +44,11 @@ use Rattle.afl_session.proofs.Beginnings.{history_stays, places_see_the_same}
 use Rattle.afl_session.proofs.Behind.{source_tells}
 use Rattle.statement_replies.proofs.Listed.{listed_decide}
 use Rattle.afl_session.proofs.PinPlaces.{open_pins_are_entered}
-use Rattle.session_sources.specs.Courses.{AddsOwn}
-use Rattle.session_sources.specs.Pinned.{pinned_state, unread}
-use Rattle.session_sources.specs.Seats.{read_count, seen, start}
-use Rattle.session_sources.specs.Start.{Start}
-use Rattle.session_sources.specs.Told.{entries_in, is_sealed, ledger_of, told}
+use Rattle.snapshot_manager.specs.Courses.{AddsOwn}
+use Rattle.snapshot_manager.specs.Pinned.{pinned_state, unread}
+use Rattle.snapshot_manager.specs.Seats.{read_count, seen, start}
+use Rattle.snapshot_manager.specs.Start.{Start}
+use Rattle.snapshot_manager.specs.Told.{entries_in, is_sealed, ledger_of, told}
 use Rattle.afl_session.proofs.Under.{pin_within}
 use Rattle.afl_session.specs.Inner.Steps.{WasRead}
 use Rattle.afl_session.specs.Reads.{asked_at, counted, rows_put_at, source_at, CountsAt}

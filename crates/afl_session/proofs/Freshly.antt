@@ -6,12 +6,12 @@ use Rattle.std.proofs.lemmas.List.{length-reverse}
 use Rattle.event_core.specs.declared.entry.Entry.{Entry}
 use Rattle.event_core.specs.declared.entry.Entry.TheVariants.{Pin, Unpin, Commit, Reap}
 use Rattle.event_core.specs.History.{History, pin_before, up_to}
-use Rattle.lean_core.proofs.Pins.{beginnings_are_kept}
+use Rattle.store_versions.proofs.Pins.{beginnings_are_kept}
 use Rattle.array_store.specs.Fresh.{IsFresh}
 use Rattle.array_store.specs.FreshLaws.{SameRoom}
 use Rattle.store_ledger.specs.Ledger.{history}
-use Rattle.session_sources.proofs.FreshChanges.{fresh_since}
-use Rattle.session_sources.specs.Told.{entries_in, ledger_of}
+use Rattle.snapshot_manager.proofs.FreshChanges.{fresh_since}
+use Rattle.snapshot_manager.specs.Told.{entries_in, ledger_of}
 use Rattle.afl_session.specs.Freshly.{FreshChangesAreLeftSince}
 
 abbrev Splits : ℕ → History → History → Type 0

@@ -21,22 +21,22 @@ use Rattle.statement_replies.specs.declared.replies.replies.Reply.{Reply as Told
 use Rattle.statement_replies.specs.Reading.{HoldsVersions}
 use Rattle.statement_replies.specs.Statements.{reply_to}
 use Rattle.statement_replies.specs.declared.replies.style.Style.{Style}
-use Rattle.session_sources.specs.Owners.{is_open_to}
-use Rattle.session_sources.specs.Turn.{Turn}
+use Rattle.snapshot_manager.specs.Owners.{is_open_to}
+use Rattle.snapshot_manager.specs.Turn.{Turn}
 use Rattle.store_ledger.specs.Ledger.{history, is_noted, is_tried}
 use Rattle.store_state.specs.declared.state.event.Event.{Event}
 use Rattle.store_state.specs.declared.state.parts.StoreParts.{StoreParts}
 use Rattle.store_state.specs.Calls.{IsLeafOf}
 use Rattle.store_state.specs.Events.{events, owner_of}
 use Rattle.store_state.specs.Standings.{Standing}
-use Rattle.session_sources.specs.Databases.{HasDatabase}
-use Rattle.session_sources.specs.Held.{held_state, holding_of, names_now, store_then, unheld, HasHeld}
-use Rattle.session_sources.specs.Prepared.{IsAsked, MayBeMade}
-use Rattle.session_sources.specs.Seats.{store_of}
-use Rattle.session_sources.specs.declared.holding.Holding.{Holding}
-use Rattle.session_sources.specs.declared.holding.LentTurn.{LentTurn}
-use Rattle.session_sources.specs.declared.marks.Marks.{Marks}
-use Rattle.session_sources.proofs.VersionLaws.{held_sources_hold_versions}
+use Rattle.snapshot_manager.specs.Databases.{HasDatabase}
+use Rattle.snapshot_manager.specs.Held.{held_state, holding_of, names_now, store_then, unheld, HasHeld}
+use Rattle.snapshot_manager.specs.Prepared.{IsAsked, MayBeMade}
+use Rattle.snapshot_manager.specs.Seats.{store_of}
+use Rattle.snapshot_manager.specs.declared.sources.holding.Holding.{Holding}
+use Rattle.snapshot_manager.specs.declared.sources.holding.LentTurn.{LentTurn}
+use Rattle.snapshot_manager.specs.declared.sources.marks.Marks.{Marks}
+use Rattle.snapshot_manager.proofs.VersionLaws.{held_sources_hold_versions}
 use Rattle.afl_session.specs.BehindPins.{ComesOver}
 use Rattle.afl_session.specs.Inner.Turns.{store_in, IsRead, IsWhy, KeepsTurn}
 use Rattle.afl_session.proofs.Adding.{all_append}

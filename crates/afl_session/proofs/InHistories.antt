@@ -13,13 +13,13 @@ use Rattle.afl_session.specs.Answered.{BeganAt, IsAnswered}
 use Rattle.store_state.specs.declared.state.event.Event.{Event}
 use Rattle.afl_session.specs.Replies.{IsToldFor}
 use Rattle.afl_session.specs.declared.replies.reply.Reply.{Reply}
-use Rattle.session_sources.specs.Start.{Start}
+use Rattle.snapshot_manager.specs.Start.{Start}
 use Rattle.statement_replies.specs.declared.replies.style.Style.{Style}
-use Rattle.session_sources.specs.Told.{entries_in, is_sealed}
+use Rattle.snapshot_manager.specs.Told.{entries_in, is_sealed}
 use Rattle.afl_session.proofs.Staying.{entered_later, no_room_later, replies_stay}
-use Rattle.session_reports.specs.declared.reports.Mark.{Mark}
-use Rattle.session_reports.specs.declared.reports.SessionEnd.{SessionEnd}
-use Rattle.session_reports.specs.declared.reports.SessionEnd.TheVariants as ends
+use Rattle.run_opening.specs.declared.reports.reports.Mark.{Mark}
+use Rattle.run_opening.specs.declared.reports.reports.SessionEnd.{SessionEnd}
+use Rattle.run_opening.specs.declared.reports.reports.SessionEnd.TheVariants as ends
 use Rattle.afl_session.specs.Histories.{AnswersTextIn, IsAnsweredIn, IsMarkedIn}
 use Rattle.afl_session.specs.ScriptsLaws.{MarksStay, SessionsStay}
 use Rattle.afl_session.specs.Marked.{AnswersText, IsMarked, IsReplyOf, reply_told}

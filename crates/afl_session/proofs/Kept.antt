@@ -4,10 +4,10 @@ use Rattle.afl_outside.specs.Disk.{Moment}
 use Rattle.afl_trees.specs.Term.{Term}
 use Rattle.statement_replies.specs.declared.replies.style.Style.{Style}
 use Rattle.store_state.specs.declared.state.event.Event.{Event}
-use Rattle.session_sources.specs.Seat.{Seat}
-use Rattle.session_sources.specs.Shared.{Shared}
+use Rattle.snapshot_manager.specs.declared.seat.Seat.{Seat}
+use Rattle.snapshot_manager.specs.declared.shared.Shared.{Shared}
 use Rattle.afl_session.specs.declared.replies.reply.Reply.{Reply}
-use Rattle.session_sources.specs.Seats.{read_count, seen, start, with_last, HoldsNone, IsIdle, IsSeatOf}
+use Rattle.snapshot_manager.specs.Seats.{read_count, seen, start, with_last, HoldsNone, IsIdle, IsSeatOf}
 use Rattle.afl_session.specs.Answered.{IsAnswered}
 use Rattle.afl_session.specs.Reads.{ReadsOnce}
 

@@ -6,12 +6,12 @@ use Rattle.store_ledger.specs.declared.note.NoteKind.TheVariants.{Fault}
 use Rattle.store_ledger.specs.Ledger.{is_fault, is_noted}
 use Rattle.store_state.specs.declared.state.event.Event.{Event}
 use Rattle.store_state.specs.declared.state.event.Event.TheVariants.{Noted}
-use Rattle.session_sources.specs.Start.{Start}
-use Rattle.session_sources.specs.Told.{ledger_of}
+use Rattle.snapshot_manager.specs.Start.{Start}
+use Rattle.snapshot_manager.specs.Told.{ledger_of}
 use Rattle.afl_session.specs.Replies.{HasFault}
-use Rattle.session_sources.specs.Courses.{AddsOwn, IsFaultAtMost}
-use Rattle.session_sources.proofs.CourseLaws.{courses_keep_notes}
-use Rattle.session_sources.specs.Seats.{seen, session_of, start}
+use Rattle.snapshot_manager.specs.Courses.{AddsOwn, IsFaultAtMost}
+use Rattle.snapshot_manager.proofs.CourseLaws.{courses_keep_notes}
+use Rattle.snapshot_manager.specs.Seats.{seen, session_of, start}
 use Rattle.afl_session.specs.ToldReplies.{FailuresAreNoted}
 
 fault_in : (session after : ℕ) → Contains (Noted (record { session = session; kind = Fault; after = after }) ∷ []) (Noted (record { session = session; kind = Fault; after = after }))

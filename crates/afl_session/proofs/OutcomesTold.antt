@@ -25,7 +25,7 @@ use Rattle.statement_replies.specs.StatementKinds.{HasChangeKind, HasStatementKi
 use Rattle.statement_replies.specs.Statements.{Accepted, without_change}
 use Rattle.statement_replies.specs.declared.replies.style.Style.{Style}
 use Rattle.store_state.specs.declared.state.event.Event.{Event}
-use Rattle.session_sources.specs.Start.{Start}
+use Rattle.snapshot_manager.specs.Start.{Start}
 use Rattle.afl_session.specs.Acts.{looking}
 use Rattle.afl_session.specs.Refusals.{IsWant, Refuses}
 use Rattle.afl_session.specs.Replies.{names_before, words_of, HasLine, IsToldFor}

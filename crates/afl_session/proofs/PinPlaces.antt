@@ -6,7 +6,7 @@ use Rattle.std.proofs.lemmas.List.{length-reverse, reverse-reverse}
 use Rattle.event_core.specs.declared.entry.Entry.{Entry}
 use Rattle.event_core.specs.declared.entry.Entry.TheVariants.{Pin, Unpin, Commit, Reap}
 use Rattle.event_core.specs.History.{History, names_at, pin_before, up_to}
-use Rattle.lean_core.proofs.Pins.{places_tell_pins}
+use Rattle.store_versions.proofs.Pins.{places_tell_pins}
 use Rattle.array_store.specs.Told.{entries_in}
 use Rattle.afl_session.specs.RepliesLaws.{OpenPinsAreEntered}
 use Rattle.afl_session.proofs.BehindPins.{turned}

@@ -12,7 +12,7 @@ use Rattle.store_state.specs.declared.state.event.Event.TheVariants.{Noted}
 use Rattle.afl_session.specs.Acts.{Course, nothing, looking, trying, making}
 use Rattle.afl_session.specs.Replies.{HasFault, IsToldFor}
 use Rattle.afl_session.specs.declared.replies.reply.Reply.{Reply}
-use Rattle.session_sources.specs.Start.{Start}
+use Rattle.snapshot_manager.specs.Start.{Start}
 
 module _ {D : Type 0} (style : Style) (moment : D → Moment) (start : Start D) (session pin : ℕ) (events before own : List Event) (text : List ℕ) (tree : Term) (reply : Reply) where
   fault_before : HasFault session own → HasFault session (before ++ own)

@@ -15,18 +15,18 @@ use Rattle.statement_replies.specs.declared.answers.outcome.Outcome.{Outcome}
 use Rattle.statement_replies.specs.Outcomes.{HasOutcomeKind, IsOutcomeOf, IsToldBy}
 use Rattle.statement_replies.specs.Statements.{reply_to}
 use Rattle.statement_replies.specs.declared.replies.style.Style.{Style}
-use Rattle.session_sources.specs.Turn.{Turn}
+use Rattle.snapshot_manager.specs.Turn.{Turn}
 use Rattle.store_ledger.specs.Ledger.{history}
 use Rattle.store_state.specs.declared.state.event.Event.{Event}
 use Rattle.store_state.specs.declared.state.parts.StoreParts.{StoreParts}
 use Rattle.store_state.specs.Calls.{database_with, history_at}
 use Rattle.store_state.specs.Standings.{BeganAs}
-use Rattle.session_sources.specs.Starts.{start_of}
-use Rattle.session_sources.specs.Databases.{HasDatabase, IsDatabaseOf}
-use Rattle.session_sources.specs.Held.{held_state, names_now, unheld}
-use Rattle.session_sources.specs.Seats.{store_of}
-use Rattle.session_sources.specs.Start.{Start}
-use Rattle.session_sources.specs.Told.{entries_in, told}
+use Rattle.snapshot_manager.specs.Starts.{start_of}
+use Rattle.snapshot_manager.specs.Databases.{HasDatabase, IsDatabaseOf}
+use Rattle.snapshot_manager.specs.Held.{held_state, names_now, unheld}
+use Rattle.snapshot_manager.specs.Seats.{store_of}
+use Rattle.snapshot_manager.specs.Start.{Start}
+use Rattle.snapshot_manager.specs.Told.{entries_in, told}
 use Rattle.afl_session.specs.BehindPins.{ComesOver}
 use Rattle.afl_session.specs.Replies.{names_before}
 use Rattle.afl_session.specs.Said.{ComesOf, IsSaid}

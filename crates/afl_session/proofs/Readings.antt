@@ -25,23 +25,23 @@ use Rattle.store_ledger.specs.declared.pinned.Pinned.{Pinned}
 use Rattle.store_ledger.specs.Ledger.{IsOpenPin, is_fault, is_noted}
 use Rattle.store_state.specs.declared.state.event.Event.{Event}
 use Rattle.store_state.specs.Calls.{IsLeafOf}
-use Rattle.session_sources.specs.Seat.{Seat}
-use Rattle.session_sources.specs.Shared.{Shared}
+use Rattle.snapshot_manager.specs.declared.seat.Seat.{Seat}
+use Rattle.snapshot_manager.specs.declared.shared.Shared.{Shared}
 use Rattle.afl_session.specs.Acts.{acts_in, begins, ends, looking}
 use Rattle.afl_session.specs.Fresh.{IsNamedAt}
 use Rattle.afl_session.specs.Refusals.{IsUnreadReply}
 use Rattle.afl_session.specs.Replies.{words_of}
 use Rattle.afl_session.specs.declared.replies.reply.Reply.{Reply}
 use Rattle.afl_session.proofs.Beginnings.{history_stays}
-use Rattle.session_sources.specs.declared.reading.Lent.{Lent}
-use Rattle.session_sources.specs.declared.reading.Reading.{Reading}
-use Rattle.session_sources.specs.Courses.{AddsOwn}
-use Rattle.session_sources.specs.Databases.{IsDatabaseOf}
-use Rattle.session_sources.specs.Laws.{PinnedSourcesHoldVersions}
-use Rattle.session_sources.specs.Pinned.{pinned_state, reading_of, unread, HasRead}
-use Rattle.session_sources.specs.Seats.{ledger_seen, seen, session_of, start}
-use Rattle.session_sources.specs.Start.{Start}
-use Rattle.session_sources.specs.Told.{entries_in, ledger_of}
+use Rattle.snapshot_manager.specs.declared.sources.reading.Lent.{Lent}
+use Rattle.snapshot_manager.specs.declared.sources.reading.Reading.{Reading}
+use Rattle.snapshot_manager.specs.Courses.{AddsOwn}
+use Rattle.snapshot_manager.specs.Databases.{IsDatabaseOf}
+use Rattle.snapshot_manager.specs.Laws.{PinnedSourcesHoldVersions}
+use Rattle.snapshot_manager.specs.Pinned.{pinned_state, reading_of, unread, HasRead}
+use Rattle.snapshot_manager.specs.Seats.{ledger_seen, seen, session_of, start}
+use Rattle.snapshot_manager.specs.Start.{Start}
+use Rattle.snapshot_manager.specs.Told.{entries_in, ledger_of}
 use Rattle.afl_session.specs.BehindPins.{ComesOver, HasDatabaseAt}
 use Rattle.afl_session.specs.Changing.{IsReadChange}
 use Rattle.afl_session.specs.ToldReplies.{IsLookedReply}

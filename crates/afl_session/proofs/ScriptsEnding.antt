@@ -9,9 +9,9 @@ use Rattle.afl_outside.specs.Source.{SourceState, Gives}
 use Rattle.afl_outside.proofs.Streams.{Takes-nothing}
 use Rattle.afl_session.specs.Inner.Serving.{EndsServing, GoesOn, HasAnswered, HasStopped, IsServing, Reached, StopsWithin, end_of}
 use Rattle.afl_session.specs.Session.{AnswerRule, Replies, Serves}
-use Rattle.session_reports.specs.declared.reports.SessionEnd.{SessionEnd}
-use Rattle.session_reports.specs.declared.reports.SessionEnd.TheVariants.{Whole, Source}
-use Rattle.session_reports.specs.declared.reports.Mark.{Mark}
+use Rattle.run_opening.specs.declared.reports.reports.SessionEnd.{SessionEnd}
+use Rattle.run_opening.specs.declared.reports.reports.SessionEnd.TheVariants.{Whole, Source}
+use Rattle.run_opening.specs.declared.reports.reports.Mark.{Mark}
 use Rattle.afl_session.specs.declared.scripts.streams.Stopped.{Stopped}
 use Rattle.afl_session.specs.declared.scripts.streams.Stopped.TheVariants.{Fault, Memory}
 

@@ -18,13 +18,13 @@ use Rattle.statement_replies.specs.declared.replies.replies.Reply.{Reply as Word
 use Rattle.store_state.specs.declared.state.event.Event.{Event}
 use Rattle.afl_session.specs.Replies.{HasLine}
 use Rattle.afl_session.specs.declared.replies.reply.Reply.{Reply}
-use Rattle.session_sources.specs.Start.{Start}
+use Rattle.snapshot_manager.specs.Start.{Start}
 use Rattle.statement_replies.specs.declared.replies.style.Style.{Style}
-use Rattle.session_reports.specs.Outcomes.{is_want}
+use Rattle.run_opening.specs.Outcomes.{is_want}
 use Rattle.afl_session.specs.Inner.Serving.{GoesOn, HasAnswered, HasStopped, Reached, mark_at, place_after, statement_at}
 use Rattle.afl_session.specs.Marked.{AnswersText, IsMarked, IsReplyOf, reply_told, written_for}
 use Rattle.afl_session.specs.Session.{AnswerRule, AreAnswered}
-use Rattle.session_reports.specs.declared.reports.Mark.{Mark}
+use Rattle.run_opening.specs.declared.reports.reports.Mark.{Mark}
 use Rattle.afl_session.specs.declared.scripts.streams.Stopped.{Stopped}
 use Rattle.afl_session.specs.declared.scripts.streams.Stopped.TheVariants.{Fault, Memory}
 

@@ -5,7 +5,7 @@ use Rattle.statement_replies.specs.Reply.{too_long}
 use Rattle.store_state.specs.declared.state.event.Event.{Event}
 use Rattle.afl_session.specs.Refusals.{RefusesAt}
 use Rattle.afl_session.specs.declared.replies.reply.Reply.{Reply}
-use Rattle.session_sources.specs.Told.{entries_in}
+use Rattle.snapshot_manager.specs.Told.{entries_in}
 use Rattle.afl_session.specs.Marked.{IsTooLongReply}
 
 -- by its number of bytes, the place of the last reply, and how many entries were seen, as they were found

@@ -15,8 +15,8 @@ use Rattle.store_ledger.specs.declared.pinned.Pinned.{Pinned}
 use Rattle.store_ledger.specs.Ledger.{IsOpenPin, IsRefused}
 use Rattle.store_state.specs.declared.state.event.Event.{Event}
 use Rattle.store_state.specs.declared.state.event.Event.TheVariants.{Entered}
-use Rattle.session_sources.specs.Turns.{found_before, own_events, pin_event, Adds}
-use Rattle.session_sources.proofs.Turning.{turns_find}
+use Rattle.snapshot_manager.specs.Turns.{found_before, own_events, pin_event, Adds}
+use Rattle.snapshot_manager.proofs.Turning.{turns_find}
 use Rattle.afl_session.specs.Acts.{Act, Course, acts_for, acts_in, begins, ends, nothing, looking, trying, making}
 use Rattle.afl_session.specs.Refusals.{IsWant, Refuses}
 use Rattle.afl_session.specs.Replies.{names_before, EnteredAt, HadNoRoom, HasLine, IsToldFor, WasAt}
@@ -25,10 +25,10 @@ use Rattle.afl_session.proofs.ActsJoined.{acts_join}
 use Rattle.afl_session.proofs.Beginnings.{reached}
 use Rattle.afl_session.proofs.PinPlaces.{open_pins_are_entered}
 use Rattle.afl_session.proofs.Staying.{entered_later, replies_stay}
-use Rattle.session_sources.specs.Courses.{AddsOwn}
-use Rattle.session_sources.specs.Start.{Start}
-use Rattle.session_sources.specs.Told.{entries_in, is_sealed, ledger_of}
-use Rattle.session_sources.proofs.CourseLaws.{courses_join, turns_are_courses}
+use Rattle.snapshot_manager.specs.Courses.{AddsOwn}
+use Rattle.snapshot_manager.specs.Start.{Start}
+use Rattle.snapshot_manager.specs.Told.{entries_in, is_sealed, ledger_of}
+use Rattle.snapshot_manager.proofs.CourseLaws.{courses_join, turns_are_courses}
 use Rattle.afl_session.specs.AnsweredUnder.{IsAnsweredUnder}
 use Rattle.afl_session.specs.Answered.{BeganAt}
 use Rattle.afl_session.specs.Inner.Tree.{IsAnsweredTree}

@@ -13,25 +13,25 @@ use Rattle.event_core.specs.declared.entry.Entry.TheVariants.{Pin, Unpin, Commit
 use Rattle.event_core.specs.declared.state.Core.{Core}
 use Rattle.event_core.specs.Cells.{at}
 use Rattle.event_core.specs.History.{History, names_at, up_to}
-use Rattle.lean_core.proofs.Pins.{all_entries_are_the_history}
+use Rattle.store_versions.proofs.Pins.{all_entries_are_the_history}
 use Rattle.array_store.specs.FreshLaws.{AreLeft, SameRoom}
 use Rattle.statement_replies.specs.declared.replies.replies.Reply.{Reply as Told}
 use Rattle.statement_replies.specs.Statements.{Accepted}
 use Rattle.statement_replies.specs.declared.replies.style.Style.{Style}
 use Rattle.store_ledger.specs.declared.note.NoteKind.TheVariants.{Fault}
-use Rattle.session_sources.specs.Owners.{is_owned_by}
+use Rattle.snapshot_manager.specs.Owners.{is_owned_by}
 use Rattle.store_ledger.specs.declared.pinned.Pinned.{Pinned}
 use Rattle.store_ledger.specs.Ledger.{IsOpenPin, LedgerState, attempt, note_now}
 use Rattle.store_state.specs.declared.state.event.Event.{Event}
 use Rattle.store_state.specs.declared.state.event.Event.TheVariants.{Entered, Noted}
 use Rattle.store_state.specs.Calls.{history_at}
 use Rattle.store_state.specs.Events.{owner_of}
-use Rattle.session_sources.specs.Tried.{IsFaultOrNone}
-use Rattle.session_sources.specs.Growth.{tried_events}
-use Rattle.session_sources.specs.Tries.{is_fresh_since, AreOfTry, TriesCommit}
-use Rattle.session_sources.specs.Turns.{found_before, own_events}
-use Rattle.session_sources.proofs.Sights.{more_history, others_leave_pins, pins_outlast}
-use Rattle.session_sources.proofs.Turning.{turns_find}
+use Rattle.snapshot_manager.specs.Tried.{IsFaultOrNone}
+use Rattle.snapshot_manager.specs.Growth.{tried_events}
+use Rattle.snapshot_manager.specs.Tries.{is_fresh_since, AreOfTry, TriesCommit}
+use Rattle.snapshot_manager.specs.Turns.{found_before, own_events}
+use Rattle.snapshot_manager.proofs.Sights.{more_history, others_leave_pins, pins_outlast}
+use Rattle.snapshot_manager.proofs.Turning.{turns_find}
 use Rattle.afl_session.specs.Acts.{Act, acts_in, tries}
 use Rattle.afl_session.specs.Fresh.{AreLeftSince, IsNamedAt}
 use Rattle.afl_session.specs.Replies.{Says, SaysChange}
@@ -39,9 +39,9 @@ use Rattle.afl_session.proofs.ActsJoined.{acts_join}
 use Rattle.afl_session.proofs.Beginnings.{history_stays, reached}
 use Rattle.afl_session.proofs.FreshReplies.{fresh_changes_are_said}
 use Rattle.afl_session.proofs.Staying.{change_later, says_later}
-use Rattle.session_sources.specs.Start.{Start}
-use Rattle.session_sources.specs.Told.{entries_in, ledger_of, told}
-use Rattle.session_sources.proofs.CourseLaws.{own_more}
+use Rattle.snapshot_manager.specs.Start.{Start}
+use Rattle.snapshot_manager.specs.Told.{entries_in, ledger_of, told}
+use Rattle.snapshot_manager.proofs.CourseLaws.{own_more}
 use Rattle.afl_session.proofs.Freshly.{fresh_changes_are_left_since}
 
 -- ---- what the session itself added

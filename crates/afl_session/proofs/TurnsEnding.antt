@@ -9,9 +9,9 @@ use Rattle.afl_types.specs.declared.types.statements.checking.Typed.TheVariants.
 use Rattle.event_core.specs.Allowed.{is_pinned}
 use Rattle.statement_replies.specs.Forms.{a_change, form_said}
 use Rattle.statement_replies.proofs.Saying.{forms_said}
-use Rattle.session_sources.specs.Owners.{ExtendsByOwn}
-use Rattle.session_sources.specs.Lent.{turn_with}
-use Rattle.session_sources.specs.Turn.{Turn}
+use Rattle.snapshot_manager.specs.Owners.{ExtendsByOwn}
+use Rattle.snapshot_manager.specs.Lent.{turn_with}
+use Rattle.snapshot_manager.specs.Turn.{Turn}
 use Rattle.store_ledger.specs.declared.pinned.Pinned.{Pinned}
 use Rattle.store_ledger.specs.Ledger.{LedgerState, IsLedger, IsOpenPin, history, is_noted, is_tried}
 use Rattle.store_ledger.proofs.Keeping.{pinned_of}
@@ -21,17 +21,17 @@ use Rattle.store_state.specs.At.{standing, AreParts}
 use Rattle.store_state.specs.Events.{events, owner_of}
 use Rattle.store_state.specs.Standings.{Standing}
 use Rattle.statement_replies.specs.declared.replies.style.Style.{Style}
-use Rattle.session_sources.specs.Growth.{IsCounted}
-use Rattle.session_sources.specs.Starts.{start_of}
-use Rattle.session_sources.proofs.Databases.{stores_have_databases}
-use Rattle.session_sources.proofs.Telling.{stores_are_told}
-use Rattle.session_sources.specs.Seat.{Seat}
-use Rattle.session_sources.specs.Shared.{Shared}
-use Rattle.session_sources.specs.Databases.{HasDatabase}
-use Rattle.session_sources.specs.Held.{names_now}
-use Rattle.session_sources.specs.Seats.{ledger_seen, seen, session_of, start, store_of, HasTurn, HoldsPin}
-use Rattle.session_sources.specs.Start.{Start}
-use Rattle.session_sources.specs.Told.{ledger_of, IsTold}
+use Rattle.snapshot_manager.specs.Growth.{IsCounted}
+use Rattle.snapshot_manager.specs.Starts.{start_of}
+use Rattle.snapshot_manager.proofs.Databases.{stores_have_databases}
+use Rattle.snapshot_manager.proofs.Telling.{stores_are_told}
+use Rattle.snapshot_manager.specs.declared.seat.Seat.{Seat}
+use Rattle.snapshot_manager.specs.declared.shared.Shared.{Shared}
+use Rattle.snapshot_manager.specs.Databases.{HasDatabase}
+use Rattle.snapshot_manager.specs.Held.{names_now}
+use Rattle.snapshot_manager.specs.Seats.{ledger_seen, seen, session_of, start, store_of, HasTurn, HoldsPin}
+use Rattle.snapshot_manager.specs.Start.{Start}
+use Rattle.snapshot_manager.specs.Told.{ledger_of, IsTold}
 use Rattle.afl_session.specs.Replies.{IsChangeAt}
 use Rattle.afl_session.specs.declared.replies.reply.Reply.{Reply}
 use Rattle.afl_session.proofs.Behind.{names_behind}

@@ -7,17 +7,17 @@ use Rattle.result_print.specs.declared.refusal.Refusal.TheVariants.{TooLong, Par
 use Rattle.statement_replies.specs.declared.replies.replies.Reply.{Reply as Told}
 use Rattle.statement_replies.specs.Reply.{refused}
 use Rattle.statement_replies.specs.declared.replies.style.Style.{Style}
-use Rattle.session_sources.specs.Owners.{ExtendsByOwn}
+use Rattle.snapshot_manager.specs.Owners.{ExtendsByOwn}
 use Rattle.store_ledger.specs.Ledger.{is_fault, is_noted}
 use Rattle.store_state.specs.declared.state.event.Event.{Event}
 use Rattle.store_state.specs.Events.{owner_of}
-use Rattle.session_sources.specs.Start.{Start}
-use Rattle.session_sources.specs.Told.{entries_in, ledger_of}
+use Rattle.snapshot_manager.specs.Start.{Start}
+use Rattle.snapshot_manager.specs.Told.{entries_in, ledger_of}
 use Rattle.afl_session.specs.Refusals.{Refuses}
 use Rattle.afl_session.specs.Acts.{Act, acts_for, acts_in, begins, ends, Course, looking}
 use Rattle.afl_session.specs.Replies.{HasFault, HasLine, HoldsWhereRefused, IsChangeAt, IsToldFor}
 use Rattle.afl_session.specs.declared.replies.reply.Reply.{Reply}
-use Rattle.session_sources.specs.Turns.{own_events}
+use Rattle.snapshot_manager.specs.Turns.{own_events}
 use Rattle.afl_session.specs.AnsweredUnder.{IsAnsweredInTurn}
 use Rattle.afl_session.proofs.Adding.{only_acts}
 

@@ -17,19 +17,19 @@ use Rattle.store_ledger.specs.declared.pinned.Pinned.{Pinned}
 use Rattle.store_ledger.specs.Ledger.{IsOpenPin}
 use Rattle.store_state.specs.declared.state.event.Event.{Event}
 use Rattle.store_state.specs.Calls.{IsLeafOf}
-use Rattle.session_sources.specs.Start.{Start}
-use Rattle.session_sources.specs.Told.{entries_in, is_sealed, ledger_of, told}
-use Rattle.session_sources.specs.Seats.{seen, session_of, start}
+use Rattle.snapshot_manager.specs.Start.{Start}
+use Rattle.snapshot_manager.specs.Told.{entries_in, is_sealed, ledger_of, told}
+use Rattle.snapshot_manager.specs.Seats.{seen, session_of, start}
 use Rattle.afl_session.specs.Acts.{looking}
 use Rattle.afl_session.specs.Refusals.{IsUnreadReply}
 use Rattle.afl_session.specs.Replies.{names_before, words_of, BeganAsNone, HasFault, IsDamagedPage, IsToldFor}
 use Rattle.afl_session.specs.declared.replies.reply.Reply.{Reply}
 use Rattle.afl_session.proofs.PinPlaces.{open_pins_are_entered}
 use Rattle.afl_session.proofs.Staying.{page_later, replies_stay}
-use Rattle.session_sources.specs.declared.reading.Reading.{Reading}
-use Rattle.session_sources.specs.Courses.{AddsAtMostFault, AddsOwn}
-use Rattle.session_sources.specs.Pinned.{unread, HasRead}
-use Rattle.session_sources.specs.Stored.{BeginsDamage}
+use Rattle.snapshot_manager.specs.declared.sources.reading.Reading.{Reading}
+use Rattle.snapshot_manager.specs.Courses.{AddsAtMostFault, AddsOwn}
+use Rattle.snapshot_manager.specs.Pinned.{unread, HasRead}
+use Rattle.snapshot_manager.specs.Stored.{BeginsDamage}
 use Rattle.afl_session.specs.Said.{IsSaid}
 use Rattle.afl_session.specs.ToldReplies.{IsCause, IsLookedReply}
 use Rattle.afl_session.specs.Under.{FailedRepliesAreTold, HasOutcomesWords, ReadRepliesAreTold, SaysWhy, WasPinned}

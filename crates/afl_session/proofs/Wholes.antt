@@ -16,9 +16,9 @@ use Rattle.afl_session.specs.Acts.{nothing}
 use Rattle.afl_session.specs.Refusals.{IsWant, RefusesAt}
 use Rattle.afl_session.specs.Replies.{words_of, HasLine, IsToldFor}
 use Rattle.afl_session.specs.declared.replies.reply.Reply.{Reply}
-use Rattle.session_sources.specs.Start.{Start}
-use Rattle.session_sources.specs.Told.{entries_in}
-use Rattle.session_sources.proofs.CourseLaws.{courses_may_be_empty}
+use Rattle.snapshot_manager.specs.Start.{Start}
+use Rattle.snapshot_manager.specs.Told.{entries_in}
+use Rattle.snapshot_manager.proofs.CourseLaws.{courses_may_be_empty}
 use Rattle.afl_session.specs.Answered.{IsAnswered, IsStopReply}
 use Rattle.afl_session.specs.Inner.Tree.{IsAnsweredTree}
 use Rattle.afl_session.specs.Reads.{ReadsOnce}

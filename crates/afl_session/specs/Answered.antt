@@ -9,9 +9,9 @@ use Rattle.result_print.specs.declared.refusal.Refusal.TheVariants.{HistoryFull,
 use Rattle.statement_replies.specs.Reply.{refused}
 use Rattle.statement_replies.specs.declared.replies.style.Style.{Style}
 use Rattle.store_state.specs.declared.state.event.Event.{Event}
-use Rattle.session_sources.specs.Start.{Start}
-use Rattle.session_sources.specs.Told.{entries_in}
-use Rattle.session_sources.specs.Courses.{AddsOwn}
+use Rattle.snapshot_manager.specs.Start.{Start}
+use Rattle.snapshot_manager.specs.Told.{entries_in}
+use Rattle.snapshot_manager.specs.Courses.{AddsOwn}
 use Rattle.afl_session.specs.Acts.{acts_for, acts_in, Course, nothing}
 use Rattle.afl_session.specs.Refusals.{IsWantBetween}
 use Rattle.afl_session.specs.Replies.{words_of, EnteredAt, HadNoRoom, HasLine, IsToldFor}

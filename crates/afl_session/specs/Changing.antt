@@ -5,7 +5,7 @@ use Rattle.afl_trees.specs.Term.{Term}
 use Rattle.array_geom.specs.declared.chunk.Changed.{Changed}
 use Rattle.plan_changes.specs.declared.change.Change.{Change}
 use Rattle.plan_changes.specs.Databases.{Database}
-use Rattle.session_sources.specs.Prepared.{MayBeMade}
+use Rattle.snapshot_manager.specs.Prepared.{MayBeMade}
 use Rattle.statement_replies.specs.declared.answers.outcome.Outcome.TheVariants.{Changes}
 use Rattle.statement_replies.specs.Outcomes.{MayBeCommitted}
 use Rattle.statement_replies.specs.declared.replies.replies.Reply.{Reply as Told}
@@ -13,10 +13,10 @@ use Rattle.statement_replies.specs.declared.replies.style.Style.{Style}
 use Rattle.store_ledger.specs.Ledger.{is_noted, is_tried}
 use Rattle.store_state.specs.Calls.{database_with}
 use Rattle.store_state.specs.Standings.{BeganAs}
-use Rattle.session_sources.specs.Seats.{ledger_seen, seen, start, store_seen}
+use Rattle.snapshot_manager.specs.Seats.{ledger_seen, seen, start, store_seen}
 use Rattle.afl_session.specs.Replies.{Says, SaysChange}
-use Rattle.session_sources.specs.declared.reading.Reading.{Reading}
-use Rattle.session_sources.specs.Pinned.{pinned_state, unread, HasRead}
+use Rattle.snapshot_manager.specs.declared.sources.reading.Reading.{Reading}
+use Rattle.snapshot_manager.specs.Pinned.{pinned_state, unread, HasRead}
 use Rattle.afl_session.specs.BehindPins.{ComesOver}
 use Rattle.afl_session.specs.Under.{WasPinned}
 

@@ -4,9 +4,9 @@ use Rattle.plan_changes.specs.declared.change.Change.{Change}
 use Rattle.store_ledger.specs.declared.pinned.Pinned.{Pinned}
 use Rattle.store_ledger.specs.Ledger.{IsOpenPin}
 use Rattle.store_state.specs.declared.state.event.Event.{Event}
-use Rattle.session_sources.specs.Start.{Start}
-use Rattle.session_sources.specs.Told.{entries_in, ledger_of}
-use Rattle.session_sources.specs.Tries.{is_fresh_since}
+use Rattle.snapshot_manager.specs.Start.{Start}
+use Rattle.snapshot_manager.specs.Told.{entries_in, ledger_of}
+use Rattle.snapshot_manager.specs.Tries.{is_fresh_since}
 use Rattle.afl_session.specs.Fresh.{AreLeftSince}
 
 -- A FRESH CHANGE IS LEFT by all that came since right behind the pin

@@ -7,14 +7,14 @@ use Rattle.afl_trees.specs.declared.kind.ParseKind.{ParseKind}
 use Rattle.result_print.specs.declared.refusal.Refusal.TheVariants.{HistoryFull}
 use Rattle.afl_session.specs.Acts.{acts_for, acts_in, Course}
 use Rattle.afl_session.specs.Answered.{BeganAt, IsStopReply}
-use Rattle.session_sources.specs.Courses.{AddsOwn}
+use Rattle.snapshot_manager.specs.Courses.{AddsOwn}
 use Rattle.store_state.specs.declared.state.event.Event.{Event}
 use Rattle.afl_session.specs.Refusals.{IsWantBetween}
 use Rattle.afl_session.specs.Replies.{HadNoRoom, HasLine, IsToldFor}
 use Rattle.afl_session.specs.declared.replies.reply.Reply.{Reply}
-use Rattle.session_sources.specs.Start.{Start}
+use Rattle.snapshot_manager.specs.Start.{Start}
 use Rattle.statement_replies.specs.declared.replies.style.Style.{Style}
-use Rattle.session_sources.specs.Told.{entries_in}
+use Rattle.snapshot_manager.specs.Told.{entries_in}
 use Rattle.afl_session.specs.Marked.{IsMarkedBy, ReplyRule}
 use Rattle.afl_session.specs.Session.{AnswerRule}
 

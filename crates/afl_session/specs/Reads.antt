@@ -10,13 +10,13 @@ use Rattle.event_core.specs.declared.entry.Entry.TheVariants.{Pin}
 use Rattle.logical_plan.specs.declared.names.Names.{Names}
 use Rattle.plan_changes.specs.Databases.{Database}
 use Rattle.statement_replies.specs.Outcomes.{all_asked, rows_put_by}
-use Rattle.session_sources.specs.Stored.{numbers_at, schema_of, AreRowsAfter}
+use Rattle.snapshot_manager.specs.Stored.{numbers_at, schema_of, AreRowsAfter}
 use Rattle.store_state.specs.declared.state.event.Event.{Event}
 use Rattle.store_state.specs.Calls.{database_with, history_at}
 use Rattle.store_state.specs.Standings.{BeganAs}
 use Rattle.afl_session.specs.Replies.{names_before, EnteredAt}
-use Rattle.session_sources.specs.Start.{Start}
-use Rattle.session_sources.specs.Told.{entries_in, told}
+use Rattle.snapshot_manager.specs.Start.{Start}
+use Rattle.snapshot_manager.specs.Told.{entries_in, told}
 
 -- a count after so many more chunks were counted. It stands still at the last value of a `u64`
 abbrev pub counted : List Asked → ℕ → ℕ

@@ -12,8 +12,8 @@ use Rattle.statement_replies.specs.declared.replies.style.Style.{Style}
 use Rattle.store_state.specs.declared.state.event.Event.{Event}
 use Rattle.store_state.specs.Calls.{database_with}
 use Rattle.store_state.specs.Standings.{BeganAs}
-use Rattle.session_sources.specs.Start.{Start}
-use Rattle.session_sources.specs.Told.{told}
+use Rattle.snapshot_manager.specs.Start.{Start}
+use Rattle.snapshot_manager.specs.Told.{told}
 use Rattle.afl_session.specs.Replies.{names_before, Says, SaysChange}
 
 module _ {D : Type 0} (moment : D → Moment) (start : Start D) (events : List Event) (text : List ℕ) (tree : Term) (place : ℕ) (style : Style) where

@@ -6,11 +6,11 @@ use Rattle.afl_outside.specs.Disk.{Moment}
 use Rattle.afl_outside.specs.Source.{SourceState}
 use Rattle.afl_outside.specs.Sink.{SinkState}
 use Rattle.store_state.specs.declared.state.event.Event.{Event}
-use Rattle.session_sources.specs.Start.{Start}
+use Rattle.snapshot_manager.specs.Start.{Start}
 use Rattle.statement_replies.specs.declared.replies.style.Style.{Style}
-use Rattle.session_sources.specs.Told.{is_sealed}
-use Rattle.session_reports.specs.declared.reports.Mark.{Mark}
-use Rattle.session_reports.specs.declared.reports.SessionEnd.{SessionEnd}
+use Rattle.snapshot_manager.specs.Told.{is_sealed}
+use Rattle.run_opening.specs.declared.reports.reports.Mark.{Mark}
+use Rattle.run_opening.specs.declared.reports.reports.SessionEnd.{SessionEnd}
 use Rattle.afl_session.specs.Histories.{IsMarkedIn}
 use Rattle.afl_session.specs.Marked.{IsMarked}
 use Rattle.afl_session.specs.Session.{Serves}

@@ -5,10 +5,10 @@ use Rattle.afl_lexer.specs.Split.{Statement}
 use Rattle.result_print.specs.declared.refusal.Refusal.TheVariants.{TooLong, Memory}
 use Rattle.statement_replies.specs.Reply.{memory_line}
 use Rattle.store_state.specs.declared.state.event.Event.{Event}
-use Rattle.session_sources.specs.Start.{Start}
+use Rattle.snapshot_manager.specs.Start.{Start}
 use Rattle.statement_replies.specs.declared.replies.style.Style.{Style}
-use Rattle.session_sources.specs.Told.{entries_in}
-use Rattle.session_reports.specs.declared.reports.Mark.{Mark}
+use Rattle.snapshot_manager.specs.Told.{entries_in}
+use Rattle.run_opening.specs.declared.reports.reports.Mark.{Mark}
 use Rattle.afl_session.specs.Marked.{IsMarked}
 
 abbrev pub long_statement : Statement

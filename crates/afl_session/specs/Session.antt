@@ -12,9 +12,9 @@ use Rattle.afl_outside.specs.Counts.{Rose}
 use Rattle.afl_outside.specs.Source.{SourceState, Gives}
 use Rattle.afl_outside.specs.Sink.{SinkState, Takes}
 use Rattle.store_state.specs.declared.state.event.Event.{Event}
-use Rattle.session_reports.specs.declared.reports.Mark.{Mark}
-use Rattle.session_reports.specs.declared.reports.SessionEnd.{SessionEnd}
-use Rattle.session_reports.specs.declared.reports.SessionEnd.TheVariants.{Whole, Source, Sink, Memory}
+use Rattle.run_opening.specs.declared.reports.reports.Mark.{Mark}
+use Rattle.run_opening.specs.declared.reports.reports.SessionEnd.{SessionEnd}
+use Rattle.run_opening.specs.declared.reports.reports.SessionEnd.TheVariants.{Whole, Source, Sink, Memory}
 
 -- what has to hold of a statement, its mark and the text that it was answered: between what its session had seen before and what it had seen
 -- then, and behind the place of its last reply

@@ -11,15 +11,15 @@ use Rattle.statement_replies.specs.declared.replies.style.Style.{Style}
 use Rattle.store_ledger.specs.declared.note.NoteKind.{NoteKind}
 use Rattle.store_ledger.specs.Ledger.{is_noted}
 use Rattle.store_state.specs.declared.state.event.Event.{Event}
-use Rattle.session_sources.specs.Start.{Start}
-use Rattle.session_sources.specs.Seats.{ledger_seen, seen, session_of, start}
+use Rattle.snapshot_manager.specs.Start.{Start}
+use Rattle.snapshot_manager.specs.Seats.{ledger_seen, seen, session_of, start}
 use Rattle.afl_session.specs.Acts.{looking}
 use Rattle.afl_session.specs.Refusals.{IsUnreadReply}
 use Rattle.afl_session.specs.Replies.{names_before, words_of, BeganAsNone, HasFault, HasLine, HoldsBehindPin, HoldsWhereRefused, IsDamagedPage, IsToldFor}
 use Rattle.afl_session.specs.declared.replies.reply.Reply.{Reply}
-use Rattle.session_sources.specs.declared.reading.Reading.{Reading}
-use Rattle.session_sources.specs.Courses.{AddsAtMostFault}
-use Rattle.session_sources.specs.Pinned.{HasRead}
+use Rattle.snapshot_manager.specs.declared.sources.reading.Reading.{Reading}
+use Rattle.snapshot_manager.specs.Courses.{AddsAtMostFault}
+use Rattle.snapshot_manager.specs.Pinned.{HasRead}
 use Rattle.afl_session.specs.Said.{IsSaid}
 
 module _ {D : Type 0} (moment : D → Moment) (start : Start D) (session pin : ℕ) (events own : List Event) (text : List ℕ) (tree : Term) (reply : Reply) where

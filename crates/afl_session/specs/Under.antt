@@ -10,13 +10,13 @@ use Rattle.statement_replies.specs.Outcomes.{MayFail}
 use Rattle.statement_replies.specs.declared.replies.style.Style.{Style}
 use Rattle.store_ledger.specs.declared.note.NoteKind.{NoteKind}
 use Rattle.store_ledger.specs.Ledger.{is_noted}
-use Rattle.session_sources.specs.Seats.{ledger_seen, seen, session_of, start}
+use Rattle.snapshot_manager.specs.Seats.{ledger_seen, seen, session_of, start}
 use Rattle.afl_session.specs.Refusals.{IsUnreadReply}
 use Rattle.afl_session.specs.Replies.{words_of}
 use Rattle.afl_session.specs.declared.replies.reply.Reply.{Reply}
-use Rattle.session_sources.specs.declared.reading.Reading.{Reading}
-use Rattle.session_sources.specs.Courses.{AddsAtMostFault}
-use Rattle.session_sources.specs.Pinned.{pinned_state, unread, HasRead}
+use Rattle.snapshot_manager.specs.declared.sources.reading.Reading.{Reading}
+use Rattle.snapshot_manager.specs.Courses.{AddsAtMostFault}
+use Rattle.snapshot_manager.specs.Pinned.{pinned_state, unread, HasRead}
 use Rattle.afl_session.specs.BehindPins.{ComesOver, HasDatabaseAt}
 use Rattle.afl_session.specs.ToldReplies.{IsLookedReply}
 

@@ -16,7 +16,7 @@ pub use replies::{
     Reply, a_damaged_page_is_told, at_place, fresh_changes_are_said, pins_are_entered, refusal_at,
     refusal_or_want, replies_stay, some_replies_are_told, uncommitted, unread, want,
 };
+pub use run_opening::SessionReport;
 pub use scripts::{marks_stay, serve};
-pub use session_reports::SessionReport;
 pub use statement_replies::Style;
 pub use turns::{Options, answer_held};

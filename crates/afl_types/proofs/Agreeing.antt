@@ -18,14 +18,14 @@ use Rattle.check_rules.specs.Operators.{operator_named}
 use Rattle.check_rules.specs.declared.rules.operator.Operator.{Operator}
 use Rattle.check_rules.specs.declared.rules.operator.Operator.TheVariants as operator
 use Rattle.check_rules.specs.Sorts.{to_list, number_in}
-use Rattle.check_queries.specs.Build.{meant}
-use Rattle.check_queries.specs.Stored.{newest_of, version_of, referred, scan_call}
-use Rattle.check_queries.specs.Calls.{call_of}
-use Rattle.check_queries.specs.Content.{content_span}
-use Rattle.check_queries.specs.Queries.{called, over, over_two, query_of}
-use Rattle.check_queries.specs.declared.call.Call.{Call}
-use Rattle.check_queries.specs.declared.call.Call.TheVariants.{Build, Scan, Over, Two}
-use Rattle.check_queries.specs.declared.call.OverTwo.{OverTwo}
+use Rattle.check_sources.specs.Build.{meant}
+use Rattle.check_sources.specs.Stored.{newest_of, version_of, referred, scan_call}
+use Rattle.afl_types.specs.Calls.{call_of}
+use Rattle.afl_types.specs.Content.{content_span}
+use Rattle.afl_types.specs.Queries.{called, over, over_two, query_of}
+use Rattle.afl_types.specs.declared.queries.call.Call.{Call}
+use Rattle.afl_types.specs.declared.queries.call.Call.TheVariants.{Build, Scan, Over, Two}
+use Rattle.afl_types.specs.declared.queries.call.OverTwo.{OverTwo}
 use Rattle.afl_types.specs.Changes.{created, created_as, store_call, insert_call, array_call, cut_call, store_target, insert_target, stored_schema, inserted_schema, target_of, known, stored_name, cut_of, cut_by, cut_from}
 use Rattle.afl_types.specs.Place.{created_place}
 use Rattle.afl_types.specs.Statements.{queried, changed, removed, numbered, shown, store_of, insert_of, said, statement_of}

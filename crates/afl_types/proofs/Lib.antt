@@ -1,11 +1,14 @@
 pub mod Agreeing
 pub mod Arguments
 pub mod CreatedPlaces
+pub mod NoQuery
 pub mod ParsedLeaves
 pub mod Parts
 pub mod ReadVersions
 pub mod RowsFit
 pub mod Saying
+pub mod Small
+pub mod Sources
 pub mod StoredNames
 pub mod Targets
 pub mod TypedChanges
@@ -14,5 +17,6 @@ pub mod TypedJoins
 pub mod TypedMoves
 pub mod TypedQueries
 mod WorkedLaws
+mod WorkedQueries
 mod WorkedStatements
 mod WorkedTypes

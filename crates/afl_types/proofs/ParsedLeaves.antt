@@ -15,7 +15,7 @@ use Rattle.afl_trees.specs.Grammar.{Spells, SpellsArguments, SpellsMore, SpellsC
 use Rattle.afl_trees.specs.Term.{Term, create, number, text, truth, null, missing, reference, version, call, schema, star, renamed, opposite, negative, binary, group, Terms, no_terms, and_term}
 use Rattle.check_exprs.specs.Laws.{leaves_fit, all_leaves_fit}
 use Rattle.afl_types.specs.Laws.{ParsedLeavesFit}
-use Rattle.check_literals.proofs.Limits.{is_lexeme_within, lexemes_within, are_bytes}
+use Rattle.check_rules.proofs.Limits.{is_lexeme_within, lexemes_within, are_bytes}
 
 abbrev is_ok : Placed → Bool
 is_ok p = is_lexeme_within p.what

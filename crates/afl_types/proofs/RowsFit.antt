@@ -25,10 +25,10 @@ use Rattle.array_rows.specs.Arrays.{AreRows, AreRowsOf}
 use Rattle.array_rows.specs.Boxes.{is_inside, bounds_of}
 use Rattle.array_rows.specs.Rows.{placed, row_major, IsBefore, IsRising}
 use Rattle.logical_plan.specs.Typing.{may_stand, may_all_stand, is_sound, AreSound}
-use Rattle.check_literals.specs.LiteralRows.{is_value_of, fits_attribute, fit_attributes, fits_element, with_row, rows_from, rows_of, literal_rows}
-use Rattle.check_literals.specs.Inner.Reader.{elements_of}
-use Rattle.check_literals.proofs.Limits.{is_within, are_bytes}
-use Rattle.check_literals.proofs.LiteralValues.{are_within, elements_within}
+use Rattle.check_rules.specs.LiteralRows.{is_value_of, fits_attribute, fit_attributes, fits_element, with_row, rows_from, rows_of, literal_rows}
+use Rattle.check_rules.specs.Inner.Reader.{elements_of}
+use Rattle.check_rules.proofs.Limits.{is_within, are_bytes}
+use Rattle.check_rules.proofs.LiteralValues.{are_within, elements_within}
 
 -- Values
 

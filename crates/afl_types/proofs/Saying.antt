@@ -24,27 +24,27 @@ use Rattle.check_rules.specs.declared.rules.operator.Operator.TheVariants as ope
 use Rattle.check_rules.proofs.RulesHolding.{demanded, thens, of_answer}
 use Rattle.check_rules.proofs.OperatorsHolding.{new_holds}
 use Rattle.check_rules.specs.Sorts.{to_list, number_in}
-use Rattle.check_queries.specs.Build.{meant}
-use Rattle.check_queries.specs.Stored.{is_version, newest_of, at_version, version_of, referred, scan_call}
-use Rattle.check_queries.proofs.Holding.{build_holds}
+use Rattle.check_sources.specs.Build.{meant}
+use Rattle.check_sources.specs.Stored.{is_version, newest_of, at_version, version_of, referred, scan_call}
+use Rattle.check_sources.proofs.Holding.{build_holds}
 use Rattle.check_cellwise.proofs.CellsHolding.{filter_holds, apply_holds, project_holds}
 use Rattle.check_cellwise.proofs.BoxesHolding.{between_holds, subarray_holds, slice_holds}
 use Rattle.check_groups.specs.Blocks.{regrid_parts}
 use Rattle.check_groups.specs.Groups.{aggregate_parts}
 use Rattle.check_groups.specs.Windows.{window_parts}
-use Rattle.check_queries.specs.Crosses.{cross_parts}
-use Rattle.check_queries.specs.JoinSchemas.{joined_schema}
-use Rattle.check_queries.specs.Redimension.{redimension_parts}
-use Rattle.check_queries.specs.Calls.{call_of, fits_count, fits_two, ruled, ruled_two}
-use Rattle.check_queries.specs.Content.{content_span}
-use Rattle.check_queries.specs.Queries.{called, over, over_two, query_of}
-use Rattle.check_queries.specs.declared.call.Call.{Call}
-use Rattle.check_queries.specs.declared.call.Call.TheVariants.{Build, Scan, Over, Two}
-use Rattle.check_queries.specs.declared.call.OverSource.{OverSource}
-use Rattle.check_queries.specs.declared.call.OverSource.TheVariants.{Filter, Apply, Project, Between, Subarray, Slice, Redimension, Regrid, Window, Aggregate}
-use Rattle.check_queries.specs.declared.call.OverTwo.{OverTwo}
-use Rattle.check_queries.specs.declared.call.OverTwo.TheVariants.{Join, CrossJoin}
-use Rattle.check_queries.proofs.NoQuery.{nested_holds}
+use Rattle.check_joins.specs.Crosses.{cross_parts}
+use Rattle.check_joins.specs.JoinSchemas.{joined_schema}
+use Rattle.check_sources.specs.Redimension.{redimension_parts}
+use Rattle.afl_types.specs.Calls.{call_of, fits_count, fits_two, ruled, ruled_two}
+use Rattle.afl_types.specs.Content.{content_span}
+use Rattle.afl_types.specs.Queries.{called, over, over_two, query_of}
+use Rattle.afl_types.specs.declared.queries.call.Call.{Call}
+use Rattle.afl_types.specs.declared.queries.call.Call.TheVariants.{Build, Scan, Over, Two}
+use Rattle.afl_types.specs.declared.queries.call.OverSource.{OverSource}
+use Rattle.afl_types.specs.declared.queries.call.OverSource.TheVariants.{Filter, Apply, Project, Between, Subarray, Slice, Redimension, Regrid, Window, Aggregate}
+use Rattle.afl_types.specs.declared.queries.call.OverTwo.{OverTwo}
+use Rattle.afl_types.specs.declared.queries.call.OverTwo.TheVariants.{Join, CrossJoin}
+use Rattle.afl_types.proofs.NoQuery.{nested_holds}
 use Rattle.afl_types.specs.Changes.{created, array_call, cut_at, cut_by, cut_call, cut_from, cut_of, list_call, store_target, insert_target, stored_schema, inserted_schema, known, stored_name}
 use Rattle.afl_types.specs.Place.{created_place}
 use Rattle.afl_types.specs.declared.types.changes.put.Target.{Target}

@@ -14,7 +14,7 @@ use Rattle.logical_plan.specs.declared.names.NameEntry.{NameEntry}
 use Rattle.plan_changes.specs.Allowed.{has_number}
 use Rattle.plan_changes.specs.Changes.{entry_named, has_array, is_named}
 use Rattle.plan_changes.specs.Stored.{is_before, NamesRise, IsStored}
-use Rattle.check_queries.specs.Arrays.{AreValid}
+use Rattle.afl_types.specs.Arrays.{AreValid}
 
 pub schemas_valid : (es : List NameEntry) → AllByRecursion IsStored es → AreValid es
 schemas_valid [] all = tt

@@ -28,18 +28,18 @@ use Rattle.check_rules.specs.declared.rules.operator.Operator.TheVariants as ope
 use Rattle.check_rules.proofs.RulesHolding.{demanded, thens, of_answer}
 use Rattle.check_exprs.specs.Laws.{leaves_fit, all_leaves_fit}
 use Rattle.check_rules.specs.Sorts.{number_in}
-use Rattle.check_queries.specs.Build.{meant}
-use Rattle.check_queries.proofs.Holding.{meant_valid}
+use Rattle.check_sources.specs.Build.{meant}
+use Rattle.check_sources.proofs.Holding.{meant_valid}
 use Rattle.afl_types.specs.Changes.{array_call, below_of, created, created_as, cut_at, cut_by, cut_call, cut_from, cut_of, insert_call, insert_target, inserted_schema, known, list_call, store_call, store_target, stored_name, stored_schema}
 use Rattle.afl_types.specs.Place.{created_place}
 use Rattle.afl_types.specs.declared.types.changes.put.Target.{Target}
-use Rattle.check_queries.specs.Arrays.{AreValid}
+use Rattle.afl_types.specs.Arrays.{AreValid}
 use Rattle.afl_types.specs.Checking.{check_of}
-use Rattle.check_queries.specs.Queries.{query_of}
+use Rattle.afl_types.specs.Queries.{query_of}
 use Rattle.afl_types.specs.Statements.{changed, insert_of, queried, said, statement_of, store_of}
 use Rattle.afl_types.specs.declared.types.statements.checking.Typed.{Typed}
 use Rattle.afl_types.specs.declared.types.statements.checking.Typed.TheVariants.{Query as AQuery, Change as AChange, Versions, Show, ListArrays}
-use Rattle.check_queries.proofs.Small.{entry_valid}
+use Rattle.afl_types.proofs.Small.{entry_valid}
 use Rattle.afl_types.proofs.ReadVersions.{plan_reads}
 use Rattle.afl_types.proofs.StoredNames.{found_numbered, has_found, none_numbered, schemas_valid}
 use Rattle.afl_types.proofs.TypedQueries.{checked_typed}

@@ -14,7 +14,7 @@ use Rattle.check_groups.specs.Blocks.{regrid_parts}
 use Rattle.check_groups.specs.Groups.{aggregate_parts}
 use Rattle.check_groups.specs.Windows.{window_parts}
 use Rattle.check_groups.proofs.PartsFit.{BlocksFit, WindowsFit, GroupsFit, regrid_fits, window_fits, aggregate_fits}
-use Rattle.check_queries.specs.GroupCalls.{regrid_call, window_call, aggregate_call}
+use Rattle.afl_types.specs.GroupCalls.{regrid_call, window_call, aggregate_call}
 
 module _ (s : Span) (source : Query) (typed_source : IsTyped source) where
   abbrev shape : Schema

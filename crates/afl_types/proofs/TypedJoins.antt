@@ -10,10 +10,10 @@ use Rattle.logical_plan.specs.Query.{Query, joined, crossed}
 use Rattle.logical_plan.specs.Typing.{IsTyped}
 use Rattle.check_rules.proofs.RulesHolding.{thens, of_answer}
 use Rattle.check_rules.proofs.OperatorsHolding.{new_holds}
-use Rattle.check_queries.specs.Crosses.{cross_parts}
-use Rattle.check_queries.specs.JoinSchemas.{joined_schema}
-use Rattle.check_queries.proofs.SchemasFit.{JoinFits, CrossFits, join_fits, cross_fits}
-use Rattle.check_queries.specs.JoinCalls.{join_call, cross_call}
+use Rattle.check_joins.specs.Crosses.{cross_parts}
+use Rattle.check_joins.specs.JoinSchemas.{joined_schema}
+use Rattle.check_joins.proofs.SchemasFit.{JoinFits, CrossFits, join_fits, cross_fits}
+use Rattle.afl_types.specs.JoinCalls.{join_call, cross_call}
 
 module _ (s : Span) (left right : Query) (left_typed : IsTyped left) (right_typed : IsTyped right) where
   abbrev l : Schema

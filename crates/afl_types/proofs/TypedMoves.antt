@@ -7,9 +7,9 @@ use Rattle.logical_plan.specs.PlanSchema.{schema_of}
 use Rattle.logical_plan.specs.Query.{Query, redimensioned}
 use Rattle.logical_plan.specs.Typing.{IsTyped}
 use Rattle.check_rules.proofs.RulesHolding.{thens, of_answer}
-use Rattle.check_queries.specs.Redimension.{redimension_parts}
-use Rattle.check_queries.proofs.PartsFit.{MovedFit, redimension_fits}
-use Rattle.check_queries.specs.MovedCalls.{redimension_call}
+use Rattle.check_sources.specs.Redimension.{redimension_parts}
+use Rattle.check_sources.proofs.PartsFit.{MovedFit, redimension_fits}
+use Rattle.afl_types.specs.MovedCalls.{redimension_call}
 
 module _ (s : Span) (source : Query) (typed_source : IsTyped source) where
   abbrev shape : Schema

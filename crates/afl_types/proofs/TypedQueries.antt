@@ -29,13 +29,13 @@ use Rattle.check_exprs.specs.Expressions.{fits, typed}
 use Rattle.check_exprs.specs.Laws.{leaves_fit, all_leaves_fit}
 use Rattle.check_exprs.specs.declared.operand.Operand.{Operand}
 use Rattle.check_exprs.proofs.KindLemmas.{typed_have_kinds}
-use Rattle.check_literals.specs.LiteralRows.{literal_rows}
+use Rattle.check_rules.specs.LiteralRows.{literal_rows}
 use Rattle.check_rules.specs.InTurn.{in_turn, pairs_in_turn}
 use Rattle.check_rules.specs.Sorts.{to_list}
 use Rattle.check_rules.proofs.Names.{distinct_front}
 use Rattle.check_rules.proofs.Turns.{turns_keep, turns_count, pairs_keep}
 use Rattle.check_rules.proofs.ValidSchemas.{ValidParts, valid_parts, valid_of_parts, has_some}
-use Rattle.check_queries.proofs.Holding.{build_holds, referred_holds, scan_holds}
+use Rattle.check_sources.proofs.Holding.{build_holds, referred_holds, scan_holds}
 use Rattle.check_cellwise.specs.Apply.{applied_one}
 use Rattle.check_cellwise.specs.Project.{projected_one}
 use Rattle.check_cellwise.proofs.AppliedValues.{Added, adds}
@@ -46,22 +46,22 @@ use Rattle.check_cellwise.specs.Slice.{fixed_one}
 use Rattle.check_cellwise.proofs.FixedPlaces.{Held, holds_one}
 use Rattle.check_cellwise.proofs.BoxesHolding.{between_holds, subarray_holds, slice_holds}
 use Rattle.check_cellwise.proofs.Parts.{length_pairs, slice_valid, part_valid}
-use Rattle.check_queries.specs.Calls.{call_of, fits_count, fits_two, ruled, ruled_two}
-use Rattle.check_queries.specs.Arrays.{AreValid}
-use Rattle.check_queries.specs.Content.{content_span}
-use Rattle.check_queries.specs.Queries.{called, query_of}
-use Rattle.check_queries.specs.declared.call.Call.{Call}
-use Rattle.check_queries.specs.declared.call.Call.TheVariants.{Build, Scan, Over, Two}
-use Rattle.check_queries.specs.declared.call.OverSource.{OverSource}
-use Rattle.check_queries.specs.declared.call.OverSource.TheVariants.{Filter, Apply, Project, Between, Subarray, Slice, Redimension, Regrid, Window, Aggregate}
-use Rattle.check_queries.specs.declared.call.OverTwo.{OverTwo}
-use Rattle.check_queries.specs.declared.call.OverTwo.TheVariants.{Join, CrossJoin}
+use Rattle.afl_types.specs.Calls.{call_of, fits_count, fits_two, ruled, ruled_two}
+use Rattle.afl_types.specs.Arrays.{AreValid}
+use Rattle.afl_types.specs.Content.{content_span}
+use Rattle.afl_types.specs.Queries.{called, query_of}
+use Rattle.afl_types.specs.declared.queries.call.Call.{Call}
+use Rattle.afl_types.specs.declared.queries.call.Call.TheVariants.{Build, Scan, Over, Two}
+use Rattle.afl_types.specs.declared.queries.call.OverSource.{OverSource}
+use Rattle.afl_types.specs.declared.queries.call.OverSource.TheVariants.{Filter, Apply, Project, Between, Subarray, Slice, Redimension, Regrid, Window, Aggregate}
+use Rattle.afl_types.specs.declared.queries.call.OverTwo.{OverTwo}
+use Rattle.afl_types.specs.declared.queries.call.OverTwo.TheVariants.{Join, CrossJoin}
 use Rattle.afl_types.proofs.TypedGroups.{regrid_typed, window_typed, aggregate_typed}
 use Rattle.afl_types.proofs.TypedJoins.{join_typed, cross_typed}
 use Rattle.afl_types.proofs.TypedMoves.{redimension_typed}
-use Rattle.check_queries.proofs.NoQuery.{nested_holds}
-use Rattle.check_queries.proofs.Small.{entry_valid}
-use Rattle.check_literals.proofs.Limits.{are_bytes}
+use Rattle.afl_types.proofs.NoQuery.{nested_holds}
+use Rattle.afl_types.proofs.Small.{entry_valid}
+use Rattle.check_rules.proofs.Limits.{are_bytes}
 use Rattle.afl_types.proofs.RowsFit.{literal_fits}
 use Rattle.afl_types.specs.Laws.{CheckedPlansAreTyped}
 

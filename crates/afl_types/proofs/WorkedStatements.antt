@@ -10,7 +10,7 @@ use Rattle.logical_plan.specs.declared.names.NameEntry.{NameEntry}
 use Rattle.plan_changes.specs.declared.change.Change.TheVariants.{Create, Store, Insert, Remove, RemoveVersions}
 use Rattle.check_rules.specs.Checked.{refused}
 use Rattle.check_rules.specs.Operators.{query_named, change_named}
-use Rattle.check_queries.specs.Stored.{leaf_of}
+use Rattle.check_sources.specs.Stored.{leaf_of}
 use Rattle.afl_types.specs.Statements.{statement_of}
 use Rattle.afl_types.specs.declared.types.statements.checking.Typed.TheVariants.{Query as AQuery, Change as AChange, Versions, Show, ListArrays}
 

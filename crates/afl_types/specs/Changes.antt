@@ -20,7 +20,7 @@ use Rattle.plan_changes.specs.declared.change.Change.{Change}
 use Rattle.plan_changes.specs.declared.change.Change.TheVariants.{Create, Store, Insert, RemoveVersions}
 use Rattle.check_rules.specs.Checked.{Checked, refused, demand, then}
 use Rattle.check_rules.specs.Sorts.{number_in}
-use Rattle.check_queries.specs.Build.{meant}
+use Rattle.check_sources.specs.Build.{meant}
 use Rattle.afl_types.specs.declared.types.changes.put.Target.{Target}
 
 -- ---- a new array

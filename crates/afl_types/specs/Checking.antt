@@ -3,7 +3,7 @@ use Rattle.std.specs.Prelude.{ℕ, List}
 use Rattle.afl_trees.specs.Term.{Term}
 use Rattle.logical_plan.specs.declared.names.Names.{Names}
 use Rattle.check_rules.specs.Checked.{Checked}
-pub use Rattle.check_queries.specs.Arrays.{AreValid}
+pub use Rattle.afl_types.specs.Arrays.{AreValid}
 use Rattle.afl_types.specs.Statements.{statement_of}
 use Rattle.afl_types.specs.declared.types.statements.checking.Typed.{Typed}
 

@@ -14,9 +14,9 @@ use Rattle.plan_changes.specs.Typed.{IsTypedFor}
 use Rattle.plan_changes.specs.declared.change.Change.{Change}
 use Rattle.check_exprs.specs.Laws.{leaves_fit}
 use Rattle.afl_types.specs.Place.{created_place}
-use Rattle.check_queries.specs.Arrays.{AreValid}
+use Rattle.afl_types.specs.Arrays.{AreValid}
 use Rattle.afl_types.specs.Checking.{check_of}
-use Rattle.check_queries.specs.Queries.{query_of}
+use Rattle.afl_types.specs.Queries.{query_of}
 use Rattle.afl_types.specs.declared.types.statements.checking.Typed.TheVariants.{Change as AChange}
 
 -- over stored arrays of valid schemas, and for a tree whose numbers, texts and codes are within the limits of values

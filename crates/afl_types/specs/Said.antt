@@ -4,9 +4,9 @@ use Rattle.afl_trees.specs.Term.{Term, create, reference, version, call, group, 
 use Rattle.check_rules.specs.Operators.{operator_named}
 use Rattle.check_rules.specs.declared.rules.operator.Operator.{Operator}
 use Rattle.check_rules.specs.declared.rules.operator.Operator.TheVariants as operator
-use Rattle.check_queries.specs.Calls.{call_of}
-use Rattle.check_queries.specs.declared.call.Call.{Call}
-use Rattle.check_queries.specs.declared.call.Call.TheVariants.{Scan, Over, Two}
+use Rattle.afl_types.specs.Calls.{call_of}
+use Rattle.afl_types.specs.declared.queries.call.Call.{Call}
+use Rattle.afl_types.specs.declared.queries.call.Call.TheVariants.{Scan, Over, Two}
 
 -- in a query, from left to right: the argument of `scan`, the sources of the other operators, and an array by its name alone
 abbrev mutual

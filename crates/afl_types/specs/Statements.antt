@@ -17,7 +17,7 @@ use Rattle.check_rules.specs.declared.rules.operator.Operator.{Operator}
 use Rattle.check_rules.specs.declared.rules.operator.Operator.TheVariants as operator
 use Rattle.afl_types.specs.Changes.{created, store_call, insert_call, array_call, cut_call, list_call}
 use Rattle.afl_types.specs.Place.{created_place}
-use Rattle.check_queries.specs.Queries.{query_of}
+use Rattle.afl_types.specs.Queries.{query_of}
 use Rattle.afl_types.specs.declared.types.statements.checking.Typed.{Typed}
 use Rattle.afl_types.specs.declared.types.statements.checking.Typed.TheVariants.{Query as AQuery, Change as AChange, Versions, Show, ListArrays}
 

@@ -11,8 +11,8 @@ use Rattle.event_core.specs.declared.entry.Entry.{Entry}
 use Rattle.event_core.specs.Allowed.{is_pinned}
 use Rattle.event_core.specs.History.{History, OpenPin, pin_before}
 use Rattle.event_core.proofs.Tests.{both_not}
-use Rattle.lean_core.specs.Pins.{PlaceTells}
-use Rattle.lean_core.proofs.Pins.{places_tell_pins}
+use Rattle.store_versions.specs.Pins.{PlaceTells}
+use Rattle.store_versions.proofs.Pins.{places_tell_pins}
 use Rattle.store_ledger.specs.declared.note.Note.{Note}
 use Rattle.store_ledger.specs.declared.note.NoteKind.TheVariants.{Fault}
 use Rattle.store_ledger.specs.Ledger.{LedgerState, has_under, history, is_fault, is_noted, is_under, note_now, with_fault, with_notes}

@@ -7,8 +7,8 @@ use Rattle.plan_changes.specs.declared.change.Change.{Change}
 use Rattle.event_core.specs.declared.entry.Entry.{Entry}
 use Rattle.event_core.specs.declared.entry.Entry.TheVariants.{Pin}
 use Rattle.event_core.specs.History.{History, names_at, up_to}
-use Rattle.lean_core.specs.Pins.{PlaceTells}
-use Rattle.lean_core.proofs.Pins.{beginnings_are_kept, places_tell_pins}
+use Rattle.store_versions.specs.Pins.{PlaceTells}
+use Rattle.store_versions.proofs.Pins.{beginnings_are_kept, places_tell_pins}
 use Rattle.array_store.specs.Fresh.{IsFresh, is_fresh}
 use Rattle.array_store.proofs.FreshLaws.{fresh_are_left}
 use Rattle.store_ledger.specs.declared.pinned.Pinned.{Pinned}

@@ -2,7 +2,7 @@
 use Rattle.std.proofs.Common.{◌≡◌, Bool, true, false, Result, Ok, Err, IfOk, OnErr, OnOk, if◌then◌else◌, refl, sym, subst}
 use Rattle.afl_outside.specs.Disk.{DiskGoesOn, Moment}
 use Rattle.page_file.specs.FilesOpened.{OpenFile}
-use Rattle.page_slots.proofs.PutLemmas.{goes_twice}
+use Rattle.page_chain.proofs.PutLemmas.{goes_twice}
 use Rattle.store_opening.specs.StoreParts.{StoreParts}
 use Rattle.store_opening.specs.At.{AreParts, standing}
 use Rattle.store_opening.specs.Standings.{Standing}

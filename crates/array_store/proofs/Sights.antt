@@ -13,8 +13,8 @@ use Rattle.event_core.specs.declared.state.Core.{Core}
 use Rattle.event_core.specs.Allowed.{is_pinned}
 use Rattle.event_core.specs.History.{History, leaves_pin, names_at, pin_before, up_to}
 use Rattle.event_core.proofs.Tests.{both_not}
-use Rattle.lean_core.specs.Pins.{PlaceTells}
-use Rattle.lean_core.proofs.Pins.{places_tell_pins}
+use Rattle.store_versions.specs.Pins.{PlaceTells}
+use Rattle.store_versions.proofs.Pins.{places_tell_pins}
 use Rattle.store_ledger.specs.Ledger.{IsOpenPin, with_entries, with_notes}
 use Rattle.store_ledger.proofs.Pins.{open_pins_outlast}
 use Rattle.store_versions.specs.Versions.{Directories, MadeVersion, directory_of, versions_after as versions_behind, versions_at}

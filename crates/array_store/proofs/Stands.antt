@@ -6,7 +6,7 @@ use Rattle.page_file.specs.FilesOpened.{OpenFile}
 use Rattle.plan_changes.specs.declared.change.Change.{Change}
 use Rattle.plan_changes.specs.Databases.{Database}
 use Rattle.file_meaning.specs.Standing.{Stands}
-use Rattle.commit_writes.specs.declared.stopped.Stopped.{Stopped}
+use Rattle.page_file.specs.declared.commits.stopped.Stopped.{Stopped}
 use Rattle.event_core.specs.declared.entry.Entry.{Entry}
 use Rattle.event_core.specs.Cells.{at}
 use Rattle.store_opening.specs.StoreParts.{StoreParts}

@@ -22,8 +22,8 @@ use Rattle.event_core.specs.Bases.{sequence_at}
 use Rattle.event_core.specs.Cells.{at}
 use Rattle.event_core.specs.History.{History, names_at, pin_before, up_to}
 use Rattle.event_core.proofs.Tests.{both_not}
-use Rattle.lean_core.specs.Pins.{PlaceTells}
-use Rattle.lean_core.proofs.Pins.{places_tell_pins}
+use Rattle.store_versions.specs.Pins.{PlaceTells}
+use Rattle.store_versions.proofs.Pins.{places_tell_pins}
 use Rattle.array_store.specs.Fresh.{IsFresh}
 use Rattle.array_store.specs.FreshLaws.{FreshChangesAreTyped}
 use Rattle.array_store.specs.FreshChanges.{FreshChangesMayBeMade}

@@ -15,7 +15,7 @@ use Rattle.event_core.specs.Allowed.{is_pinned}
 use Rattle.event_core.specs.Bases.{commits, sequence_at}
 use Rattle.event_core.specs.Cells.{at}
 use Rattle.event_core.specs.History.{History, names_at, up_to}
-use Rattle.lean_core.proofs.Pins.{beginnings_are_kept}
+use Rattle.store_versions.proofs.Pins.{beginnings_are_kept}
 use Rattle.commit_pages.specs.Costs.{cost_from}
 use Rattle.store_ledger.specs.Ledger.{history, unused_pages}
 use Rattle.prepared_commits.specs.Event.{Event}

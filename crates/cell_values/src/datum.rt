@@ -7,7 +7,7 @@ use crate::{Bytes, Coord, Copies, List, Memory};
 use std::marker::Model;
 
 /// Why a value or a cell could not be computed.
-#[derive(Clone, Copy, Debug, PartialEq, Eq)]
+#[derive(Clone, Copy)]
 pub enum FaultKind {
     Overflow,
     DivideByZero,
@@ -17,7 +17,7 @@ pub enum FaultKind {
 }
 
 /// The reason of a null: a number from 1 to 127.
-#[derive(Clone, Copy, Debug, PartialEq, Eq)]
+#[derive(Clone, Copy)]
 pub struct Code {
     number: u8,
 }
@@ -57,7 +57,7 @@ impl Code {
 }
 
 /// A value of an attribute.
-#[derive(Debug, Drop, PartialEq, Eq)]
+#[derive(Drop)]
 pub enum Datum {
     /// Null without a reason, which counts as code 0.
     Null,
@@ -70,7 +70,7 @@ pub enum Datum {
 }
 
 /// What an array holds at a coordinate.
-#[derive(Debug, Drop, PartialEq, Eq)]
+#[derive(Drop)]
 pub enum Cell {
     /// A value for each attribute.
     Full(List<Datum>),
@@ -78,20 +78,20 @@ pub enum Cell {
     Doubt(FaultKind),
 }
 
-#[derive(Debug, Drop, PartialEq, Eq)]
+#[derive(Drop)]
 pub struct Row {
     pub at: Coord,
     pub cell: Cell,
 }
 
 /// Why an array as a whole could not be computed, and at which cell of its source.
-#[derive(Debug, Drop, PartialEq, Eq)]
+#[derive(Drop)]
 pub struct Broken {
     pub at: Coord,
     pub kind: FaultKind,
 }
 
-#[derive(Clone, Copy, Debug, PartialEq, Eq)]
+#[derive(Clone, Copy)]
 pub enum CompareOp {
     Equal,
     Differs,

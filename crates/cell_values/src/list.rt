@@ -24,7 +24,7 @@ pub trait Copies {
 }
 
 /// A `Vec` that contracts see as the list of its items. It keeps the allocator with which it was made.
-#[derive(Debug, Drop)]
+#[derive(Drop)]
 pub struct List<T> {
     items: Vec<T>,
 }

@@ -5,7 +5,7 @@ use std::error::Error;
 use std::fmt;
 
 /// No memory was left for what was asked.
-#[derive(Clone, Copy, Debug, PartialEq, Eq)]
+#[derive(Clone, Copy, Debug)]
 pub struct Memory;
 
 impl fmt::Display for Memory {

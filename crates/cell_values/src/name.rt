@@ -7,14 +7,14 @@ use crate::{Bytes, Copies, Memory};
 use std::marker::Model;
 
 /// A part of a text: the places of its first byte and of the byte after its last, from 0.
-#[derive(Clone, Copy, Debug, PartialEq, Eq)]
+#[derive(Clone, Copy)]
 pub struct Span {
     pub start: u32,
     pub end: u32,
 }
 
 /// A name: 1 to 64 bytes, a letter or `_` and then letters, digits and `_`, and no reserved word.
-#[derive(Debug, Drop, PartialEq, Eq, PartialOrd, Ord)]
+#[derive(Drop, PartialEq, Eq, PartialOrd, Ord)]
 pub struct Name {
     bytes: Bytes,
 }

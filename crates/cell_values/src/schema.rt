@@ -5,14 +5,14 @@ use crate::coord::copy_coord;
 use crate::{Coord, Copies, List, Memory, Name};
 
 /// Of which values an attribute is.
-#[derive(Clone, Copy, Debug, PartialEq, Eq)]
+#[derive(Clone, Copy)]
 pub enum Kind {
     Int64,
     Str,
     Bool,
 }
 
-#[derive(Debug, Drop, PartialEq, Eq)]
+#[derive(Drop)]
 pub struct Attribute {
     pub name: Name,
     pub kind: Kind,
@@ -21,7 +21,7 @@ pub struct Attribute {
 }
 
 /// A dimension with the places `lo` to `hi`, cut into chunks.
-#[derive(Debug, Drop, PartialEq, Eq)]
+#[derive(Drop)]
 pub struct Dimension {
     pub name: Name,
     pub lo: i64,
@@ -33,14 +33,14 @@ pub struct Dimension {
     pub overlap: u64,
 }
 
-#[derive(Debug, Drop, PartialEq, Eq)]
+#[derive(Drop)]
 pub struct Schema {
     pub attributes: List<Attribute>,
     pub dimensions: List<Dimension>,
 }
 
 /// A box of coordinates, both corners included. Where some `lo` is above its `hi`, it holds none.
-#[derive(Debug, Drop, PartialEq, Eq)]
+#[derive(Drop)]
 pub struct Bounds {
     pub lo: Coord,
     pub hi: Coord,

@@ -2,7 +2,9 @@
 #![tactic(auto)]
 
 mod chunks;
+mod letting;
 mod traces;
 
 pub use chunks::changed;
+pub use letting::{let_go_array, let_go_changed};
 pub use traces::{Asking, count_chunks, plan_lines, write_line};

@@ -2,6 +2,10 @@ pub use Rattle.afl_trees.specs.Term
 pub use Rattle.afl_trees.specs.declared.tree.BinaryOp
 pub mod Checked
 pub mod InTurn
+pub mod Inner
+pub mod Laws
+pub mod LiteralRows
+pub mod Literals
 pub mod NewSchema
 pub mod Operators
 pub mod Sorts

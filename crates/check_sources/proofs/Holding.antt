@@ -26,7 +26,7 @@ use Rattle.check_rules.specs.Checked.{Checked, then}
 use Rattle.check_rules.proofs.RulesHolding.{demanded, thens, of_answer}
 use Rattle.check_exprs.specs.Expressions.{fits, typed}
 use Rattle.check_exprs.specs.declared.operand.Operand.{Operand}
-use Rattle.check_literals.specs.LiteralRows.{literal_rows}
+use Rattle.check_rules.specs.LiteralRows.{literal_rows}
 use Rattle.check_rules.specs.Sorts.{written_schema, is_expression, to_list}
 use Rattle.check_sources.specs.Build.{meant, meant_by, with_one, built_of, built_within, built_from, listed_rows, listed_from, built_by, build_call}
 use Rattle.check_sources.specs.Stored.{entry_named, newest, is_version, leaf_of, newest_of, at_version, version_of, referred, scan_call}

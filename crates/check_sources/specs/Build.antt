@@ -19,7 +19,7 @@ use Rattle.logical_plan.specs.Typing.{is_bounded, places_in}
 use Rattle.check_rules.specs.Checked.{Checked, refused, demand, then}
 use Rattle.check_exprs.specs.Expressions.{fits, typed}
 use Rattle.check_exprs.specs.declared.operand.Operand.{Operand}
-use Rattle.check_literals.specs.LiteralRows.{literal_rows}
+use Rattle.check_rules.specs.LiteralRows.{literal_rows}
 use Rattle.check_rules.specs.Sorts.{written_schema, is_expression}
 
 -- the schema that is written, or the first rule of schemas that it breaks

@@ -27,12 +27,12 @@ use Rattle.logical_plan.specs.Faults.{if_whole}
 use Rattle.logical_plan.specs.Groups.{aggregate_of, aggregates_of, cells_of, block, group_at, grouped, aggregate_rows, regrid_rows, window_rows}
 use Rattle.logical_plan.specs.PlanSchema.{aggregate_kind, aggregate_attributes, aggregate_schema, regrid_schema, window_schema}
 use Rattle.logical_plan.specs.Typing.{is_aggregate_of, are_aggregates_of, are_below, kinds_of}
-use Rattle.exec_group.specs.Sets.{unless_empty, sets_by}
-use Rattle.exec_group.specs.Inner.Keys.{block_at}
-use Rattle.exec_group.specs.Inner.Merging.{IsSetFor}
-use Rattle.exec_group.proofs.KindLaws.{aggregate_has_kind, kinds_for}
+use Rattle.group_rows.specs.Sets.{unless_empty, sets_by}
+use Rattle.group_rows.specs.Inner.Keys.{block_at}
+use Rattle.group_rows.specs.Inner.Merging.{IsSetFor}
+use Rattle.group_rows.proofs.KindLaws.{aggregate_has_kind, kinds_for}
 use Rattle.exec_group.proofs.BlockLaws.{regrid_fits}
-use Rattle.exec_group.proofs.InsideLaws.{kinds_told, aggregate_fits}
+use Rattle.group_rows.proofs.InsideLaws.{kinds_told, aggregate_fits}
 use Rattle.window_overlap.proofs.ArraysWindowLaws.{windows_are_rows}
 use Rattle.window_overlap.proofs.ChunksWindowLaws.{part_no_longer}
 use Rattle.chunk_exec.specs.Counts.{CanCount}

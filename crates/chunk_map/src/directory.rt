@@ -4,7 +4,7 @@ ghost use Rattle.std.specs.Prelude.{◌≡◌, IfOk};
 use file_items::{ChunkAt, Copies, List, Memory, copy_numbers};
 
 /// Where the payload of a chunk lies.
-#[derive(Debug, Drop)]
+#[derive(Drop)]
 pub struct DirEntry {
     pub at: ChunkAt,
     /// How many bytes the payload has.
@@ -15,7 +15,7 @@ pub struct DirEntry {
 }
 
 /// The chunks of an array's version, by their rising numbers.
-#[derive(Debug, Drop)]
+#[derive(Drop)]
 pub struct Directory {
     pub entries: List<DirEntry>,
 }

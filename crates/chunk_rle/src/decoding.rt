@@ -22,7 +22,7 @@ use file_items::Stop;
 use std::alloc::Global;
 
 /// Why a payload could not be decoded.
-#[derive(Clone, Copy, Debug, PartialEq, Eq)]
+#[derive(Clone, Copy)]
 pub enum BadPayload {
     /// The offset of the first wrong item.
     At { at: u64 },

@@ -3,8 +3,6 @@
 
 mod crew;
 mod share;
-#[cfg(test)]
-mod tests;
 mod work;
 mod workers;
 

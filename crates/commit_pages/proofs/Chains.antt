@@ -22,7 +22,7 @@ use Rattle.event_core.specs.Apart.{makes_version}
 use Rattle.commit_pages.specs.Lengths.{AreAlike, AreAlikeArrays, AreBothAlike}
 use Rattle.commit_pages.proofs.CountingLengths.{records_read_no_page, catalogs_read_no_page, changes_keep_alike}
 use Rattle.commit_pages.specs.Costs.{record_length}
-use Rattle.commit_writes.specs.Commits.{pages_of, commit_pages, IsBlobSized, IsChainSized}
+use Rattle.page_file.specs.Commits.{pages_of, commit_pages, IsBlobSized, IsChainSized}
 use Rattle.commit_pages.specs.declared.pages.written.Written.{Written}
 use Rattle.commit_pages.specs.declared.pages.version.NewVersion.{NewVersion}
 use Rattle.commit_pages.specs.Versions.{version_in, new_version, version_needs, draft_at, IsWritten}

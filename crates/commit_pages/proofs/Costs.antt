@@ -41,7 +41,7 @@ use Rattle.commit_pages.specs.Lengths.{AreAlike, AreBothAlike, AreListed, HasIts
 use Rattle.commit_pages.proofs.Catalogs.{record_pages_are_told, catalogue_pages_are_told}
 use Rattle.commit_pages.proofs.CountingLengths.{directory_bytes as cost_bytes}
 use Rattle.commit_pages.proofs.Orders.{stored_pages, written_pages}
-use Rattle.commit_writes.specs.Commits.{pages_of}
+use Rattle.page_file.specs.Commits.{pages_of}
 use Rattle.commit_pages.specs.Versions.{blob_count, blob_at, drafted, draft, draft_of, draft_at, entry_of, entries_of, directory_of, directory_bytes, version_needs}
 use Rattle.commit_pages.specs.Changes.{AreValid, IsChangeOf}
 use Rattle.commit_pages.specs.Commits.{record_needs, base_needs, record_bytes, catalog_bytes, chain_count}

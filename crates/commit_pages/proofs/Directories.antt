@@ -19,7 +19,7 @@ use Rattle.chunk_map.specs.declared.directory.Directory.{Directory}
 use Rattle.chunk_map.specs.Entries.{AreRising, entry_at, numbers}
 use Rattle.chunk_map.specs.Replacing.{AreReplaced}
 use Rattle.chunk_map.proofs.Moves.{number_order_total, IsBefore, before-trans}
-use Rattle.commit_writes.specs.declared.placed.Placed.{Placed}
+use Rattle.page_file.specs.declared.commits.placed.Placed.{Placed}
 use Rattle.commit_pages.specs.declared.pages.written.Written.{Written}
 use Rattle.commit_pages.specs.Versions.{entry_of, entries_of, put_by, put_entry, put_entries, directory_of, draft, HasRisingNumbers}
 

@@ -6,7 +6,7 @@ use Rattle.array_geom.specs.declared.chunk.Changed.{Changed}
 use Rattle.array_geom.specs.declared.chunk.Chunk.{Chunk}
 use Rattle.array_geom.specs.Link.{NumbersRise, numbers}
 use Rattle.chunk_rle.specs.Chunks.{spelling}
-use Rattle.commit_writes.specs.Commits.{IsBlobSized}
+use Rattle.page_file.specs.Commits.{IsBlobSized}
 use Rattle.commit_pages.specs.Versions.{drafted, draft, IsWritten}
 use Rattle.commit_pages.proofs.Blobs.{drafted_is_sized}
 use Rattle.commit_pages.proofs.Directories.{draft_rises}

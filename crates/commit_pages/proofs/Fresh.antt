@@ -21,8 +21,8 @@ use Rattle.version_reaper.specs.PageSets.{holds}
 use Rattle.event_core.specs.declared.state.VersionPages.{VersionPages}
 use Rattle.event_core.specs.Pages.{is_newest}
 use Rattle.plan_changes.specs.Changes.{name_of}
-use Rattle.commit_writes.specs.declared.placed.Placed.{Placed}
-use Rattle.commit_writes.specs.Commits.{pages_of}
+use Rattle.page_file.specs.declared.commits.placed.Placed.{Placed}
+use Rattle.page_file.specs.Commits.{pages_of}
 use Rattle.commit_pages.specs.declared.pages.written.Written.{Written}
 use Rattle.commit_pages.specs.declared.pages.version.NewVersion.{NewVersion}
 use Rattle.commit_pages.specs.Versions.{placed, all_placed, settled, entry_of, entries_of, put_by, put_entry, put_entries, directory_of, directory_bytes, version_in, new_version, IsWritten}

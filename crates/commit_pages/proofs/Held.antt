@@ -22,8 +22,8 @@ use Rattle.plan_changes.specs.Query.{Query}
 use Rattle.plan_changes.specs.declared.change.Change.TheVariants.{Create, Store, Insert, Remove, RemoveVersions}
 use Rattle.plan_changes.specs.Databases.{Database, fitted, new_rows, newest_rows, rows_if_whole}
 use Rattle.file_meaning.specs.Standing.{HoldsPart, HoldsVersion}
-use Rattle.commit_writes.specs.declared.placed.Placed.{Placed}
-use Rattle.commit_writes.specs.Commits.{pages_of, HoldsBlobs}
+use Rattle.page_file.specs.declared.commits.placed.Placed.{Placed}
+use Rattle.page_file.specs.Commits.{pages_of, HoldsBlobs}
 use Rattle.commit_pages.specs.declared.pages.written.Written.{Written}
 use Rattle.commit_pages.specs.Versions.{blob_count, placed, all_placed, drafted, draft, settled, entry_of, entries_of, directory_of, directory_bytes, version_in, new_version, version_needs}
 use Rattle.commit_pages.specs.Changes.{AreValid, IsChangeOf}

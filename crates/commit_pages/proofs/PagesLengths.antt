@@ -14,8 +14,8 @@ use Rattle.chunk_map.specs.declared.directory.Directory.{Directory}
 use Rattle.chunk_map.specs.Spelling.{spelling as directory_spelling, spell_entry}
 use Rattle.page_chain.specs.Pages.{page_size, pages_for}
 use Rattle.commit_pages.specs.Lengths.{AreBothAlike}
-use Rattle.commit_writes.specs.declared.placed.Placed.{Placed}
-use Rattle.commit_writes.specs.Commits.{pages_of, IsBlobSized}
+use Rattle.page_file.specs.declared.commits.placed.Placed.{Placed}
+use Rattle.page_file.specs.Commits.{pages_of, IsBlobSized}
 use Rattle.commit_pages.specs.declared.pages.written.Written.{Written}
 use Rattle.commit_pages.specs.Versions.{blob_count, placed, all_placed, settled, entry_of, entries_of, put_by, put_entry, put_entries, directory_of, directory_bytes, version_in, new_version, version_needs, draft_at, IsWritten}
 use Rattle.commit_pages.proofs.Blobs.{take_both, pages_placed, sized_placed, pages_more, sized_more}

@@ -24,7 +24,7 @@ use Rattle.commit_pages.specs.Inner.Examples.{schema, cell_at, stored, insert_at
 use Rattle.commit_pages.specs.Lengths.{AreAlikeCatalogs, meets}
 use Rattle.commit_pages.proofs.Orders.{numbers_listed}
 use Rattle.commit_pages.proofs.Sharing.{four_rows}
-use Rattle.commit_writes.specs.Commits.{pages_of}
+use Rattle.page_file.specs.Commits.{pages_of}
 use Rattle.commit_pages.specs.Versions.{draft_of, directory_of, version_in}
 use Rattle.commit_pages.specs.Commits.{record_needs, record_laid}
 use Rattle.commit_pages.specs.Changes.{AreValid, IsChangeOf}

@@ -13,7 +13,7 @@ use Rattle.chunk_rle.specs.Stored.{IsStored}
 use Rattle.page_chain.specs.Pages.{page_size, blob}
 use Rattle.page_chain.proofs.PageLaws.{blob_read}
 use Rattle.file_meaning.proofs.Payloads.{part_stored, spelled_is_read}
-use Rattle.commit_writes.specs.Commits.{pages_of, HoldsBlobs}
+use Rattle.page_file.specs.Commits.{pages_of, HoldsBlobs}
 use Rattle.commit_pages.specs.Laws.{IsThere, WrittenAreThere}
 use Rattle.commit_pages.specs.Versions.{blob_count, all_placed, drafted, entry_of}
 use Rattle.commit_pages.proofs.Blobs.{both_fit, drafted_is_sized}

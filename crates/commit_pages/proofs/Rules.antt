@@ -28,8 +28,8 @@ use Rattle.file_items.specs.Pages.{LieIn}
 use Rattle.file_meaning.proofs.Counts.{counts_agree}
 use Rattle.file_meaning.specs.BlobAt.{BlobAt}
 use Rattle.file_meaning.specs.Changed.{IsItsBlob}
-use Rattle.commit_writes.specs.declared.placed.Placed.{Placed}
-use Rattle.commit_writes.specs.Commits.{pages_of, IsBlobSized}
+use Rattle.page_file.specs.declared.commits.placed.Placed.{Placed}
+use Rattle.page_file.specs.Commits.{pages_of, IsBlobSized}
 use Rattle.commit_pages.specs.declared.pages.written.Written.{Written}
 use Rattle.commit_pages.specs.Versions.{blob_count, all_placed, drafted, draft, settled, entry_of, entries_of, directory_of, directory_bytes, version_in, new_version, version_needs, IsWritten, CanBeListed}
 use Rattle.commit_pages.specs.Changes.{AreValid}

@@ -10,8 +10,8 @@ use Rattle.file_meaning.specs.Catalog.{Catalog}
 use Rattle.file_meaning.specs.CatalogRecord.{CatalogRecord}
 use Rattle.file_meaning.specs.Spelling.{spell_record, spelling}
 use Rattle.file_meaning.specs.Changed.{after_change, record_for}
-use Rattle.commit_writes.specs.declared.placed.Placed.{Placed}
-use Rattle.commit_writes.specs.Commits.{pages_of}
+use Rattle.page_file.specs.declared.commits.placed.Placed.{Placed}
+use Rattle.page_file.specs.Commits.{pages_of}
 use Rattle.commit_pages.specs.declared.pages.written.Written.{Written}
 use Rattle.commit_pages.specs.declared.pages.version.NewVersion.{NewVersion}
 use Rattle.commit_pages.specs.declared.pages.laid.Laid.{Laid}

@@ -32,7 +32,7 @@ use Rattle.event_core.specs.Pages.{fresh_of, is_newest}
 use Rattle.file_meaning.specs.Standing.{HoldsPart, HoldsVersion}
 use Rattle.commit_pages.specs.Costs.{catalog_of, has_log_room, cost_from}
 use Rattle.commit_pages.specs.Lengths.{AreAlikeCatalogs, AreListed, HasItsLength}
-use Rattle.commit_writes.specs.Commits.{pages_of, HoldsBlobs}
+use Rattle.page_file.specs.Commits.{pages_of, HoldsBlobs}
 use Rattle.commit_pages.specs.declared.pages.version.NewVersion.{NewVersion}
 use Rattle.commit_pages.specs.declared.pages.written.Written.{Written}
 use Rattle.commit_pages.specs.Versions.{draft, draft_of, settled, entries_of, directory_of, new_version, version_needs, HasRisingNumbers, IsWritten}

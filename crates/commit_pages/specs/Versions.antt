@@ -14,8 +14,8 @@ use Rattle.chunk_map.specs.Spelling.{spelling as directory_spelling}
 use Rattle.page_chain.specs.Pages.{page_size, pages_for}
 use Rattle.file_meaning.specs.BlobAt.{BlobAt}
 use Rattle.file_meaning.specs.Opening.{version_pages}
-use Rattle.commit_writes.specs.declared.placed.Placed.{Placed}
-use Rattle.commit_writes.specs.Commits.{pages_of, IsBlobSized}
+use Rattle.page_file.specs.declared.commits.placed.Placed.{Placed}
+use Rattle.page_file.specs.Commits.{pages_of, IsBlobSized}
 use Rattle.commit_pages.specs.declared.pages.written.Written.{Written}
 use Rattle.commit_pages.specs.declared.pages.version.NewVersion.{NewVersion}
 

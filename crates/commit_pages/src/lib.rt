@@ -12,5 +12,6 @@ pub use counting::{
 pub use pages::{
     Laid, NewVersion, Written, an_insert_is_laid, commits_take_what_they_cost,
     commits_use_the_given_pages, directories_take_entries, draft, lay_base, lay_record,
-    needed_for_base, needed_for_record, new_versions_are_held, written_chunks_are_there,
+    let_go_pages, let_go_written, needed_for_base, needed_for_record, new_versions_are_held,
+    written_chunks_are_there,
 };

@@ -6,11 +6,11 @@ mod needed;
 mod version;
 mod written;
 
-pub use laid::{Laid, lay_base, lay_record};
+pub use laid::{Laid, lay_base, lay_record, let_go_pages};
 pub use laws::{
     an_insert_is_laid, commits_take_what_they_cost, commits_use_the_given_pages,
     directories_take_entries, new_versions_are_held, written_chunks_are_there,
 };
 pub use needed::{needed_for_base, needed_for_record};
 pub use version::NewVersion;
-pub use written::{Written, draft};
+pub use written::{Written, draft, let_go_written};

@@ -5,7 +5,7 @@ use plan_changes::Change;
 use version_reaper::{Copies, List, Memory};
 
 /// The pages of a commit.
-#[derive(Debug, Drop)]
+#[derive(Drop)]
 pub struct Used {
     /// All pages of the new version, those that it shares with another one too.
     pub version: List<u32>,

@@ -6,7 +6,7 @@ use std::marker::Model;
 use version_reaper::{List, Memory, PageSet, is_in};
 
 /// A list of pages, and which of them are below a limit. Contracts see the list.
-#[derive(Debug, Drop)]
+#[derive(Drop)]
 pub struct Marks {
     pages: List<u32>,
     set: PageSet,

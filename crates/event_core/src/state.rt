@@ -5,7 +5,7 @@ use plan_changes::Names;
 use version_reaper::{Copies, List, Memory, Name};
 
 /// The pages of a version.
-#[derive(Debug, Drop)]
+#[derive(Drop)]
 pub struct VersionPages {
     pub name: Name,
     pub version: u32,

@@ -1,2 +1,10 @@
+pub mod BuiltRows
+pub mod ChunkLaws
+pub mod CoreCells
+pub mod CutLaws
+pub mod NumberLists
 pub mod Picking
+pub mod QuickLaws
+pub mod RowLaws
+pub mod RunLaws
 pub mod SmallLaws

@@ -17,10 +17,10 @@ use Rattle.array_geom.proofs.TestLaws.{and_parts, le_test, le_from_test}
 use Rattle.logical_plan.specs.declared.parts.Aggregate.{Aggregate}
 use Rattle.logical_plan.specs.Groups.{block}
 use Rattle.logical_plan.specs.PlanSchema.{in_blocks, regrid_schema}
-use Rattle.exec_group.specs.Inner.Keys.{block_at, regrid_sets}
-use Rattle.exec_group.specs.Inner.Merging.{IsSetFor}
-use Rattle.exec_group.proofs.KeyLaws.{exact_block}
-use Rattle.exec_group.proofs.InsideLaws.{all_true, set_fits}
+use Rattle.group_rows.specs.Inner.Keys.{block_at, regrid_sets}
+use Rattle.group_rows.specs.Inner.Merging.{IsSetFor}
+use Rattle.group_rows.proofs.KeyLaws.{exact_block}
+use Rattle.group_rows.proofs.InsideLaws.{all_true, set_fits}
 
 fewer_blocks : (n m size : ℕ) → n ≤ m → n / size ≤ m / size
 fewer_blocks n m zero l = grind arith

@@ -11,11 +11,11 @@ use Rattle.array_geom.specs.Geometry.{coordinate_in}
 use Rattle.array_geom.specs.Link.{rows_in}
 use Rattle.logical_plan.specs.declared.parts.Aggregate.{Aggregate}
 use Rattle.logical_plan.specs.Groups.{cells_of}
-use Rattle.exec_group.specs.declared.rows.groups.Groups.{Groups}
-use Rattle.exec_group.specs.Grouped.{AreGroupsOf}
-use Rattle.exec_group.specs.Inner.Columns.{are_inside}
-use Rattle.exec_group.specs.Inner.Keys.{aggregate_sets}
-use Rattle.exec_group.specs.Sets.{one_set}
+use Rattle.group_rows.specs.declared.rows.groups.Groups.{Groups}
+use Rattle.group_rows.specs.Grouped.{AreGroupsOf}
+use Rattle.group_rows.specs.Inner.Columns.{are_inside}
+use Rattle.group_rows.specs.Inner.Keys.{aggregate_sets}
+use Rattle.group_rows.specs.Sets.{one_set}
 
 pub cells_again : (low : List ℤ) (lengths positions : List ℕ) (cells : List Cell) → length cells ≡ length positions → cells_of (rows_in low lengths positions cells) ≡ cells
 cells_again low lengths [] [] e = refl

@@ -21,17 +21,17 @@ use Rattle.agg_states.specs.Stands.{AreApart}
 use Rattle.array_parts.specs.Cores.{HaveCells}
 use Rattle.area_cells.proofs.NumberLaws.{number_order_total}
 use Rattle.area_cells.proofs.MergeLaws.{put_all-none, IsRising-core_rows}
-use Rattle.exec_group.specs.Inner.Keys.{core_of, aggregate_sets, block_at, regrid_sets}
+use Rattle.group_rows.specs.Inner.Keys.{core_of, aggregate_sets, block_at, regrid_sets}
 use Rattle.std.specs.Prelude.{IfOk}
 use Rattle.std.proofs.lemmas.Result.{IfOk-weaker}
 use Rattle.cell_values.specs.declared.memory.Memory.{Memory}
-use Rattle.exec_group.specs.declared.rows.groups.Groups.{Groups}
-use Rattle.exec_group.specs.Grouped.{AreGroupsOf}
-use Rattle.exec_group.proofs.FormLaws.{same_sets}
+use Rattle.group_rows.specs.declared.rows.groups.Groups.{Groups}
+use Rattle.group_rows.specs.Grouped.{AreGroupsOf}
+use Rattle.group_rows.proofs.FormLaws.{same_sets}
 use Rattle.logical_plan.specs.BoxOps.{numbers_at}
 use Rattle.logical_plan.specs.declared.parts.Aggregate.{Aggregate}
 use Rattle.exec_group.specs.Inner.Parts.{sets_of, block_sets_of, has_parts}
-use Rattle.exec_group.specs.Sets.{both, all_sets, sets_by, unless_empty, IsApart, AreApartSets, AreAllApart, one_set}
+use Rattle.group_rows.specs.Sets.{both, all_sets, sets_by, unless_empty, IsApart, AreApartSets, AreAllApart, one_set}
 use Rattle.logical_plan.specs.Groups.{group_at}
 
 pub some_put : (x : Row) (rows : List Row) → unless_empty (put_row x rows) ≡ Some (put_row x rows)

@@ -14,9 +14,9 @@ use Rattle.array_rows.proofs.RowSets.{IsRising-in_order, cell_at-in_order}
 use Rattle.logical_plan.specs.declared.parts.Aggregate.{Aggregate}
 use Rattle.logical_plan.specs.BoxOps.{numbers_at}
 use Rattle.logical_plan.specs.Groups.{aggregates_of, block, group_at, grouped, aggregate_all, aggregate_rows, regrid_rows}
-use Rattle.exec_group.specs.Sets.{unless_empty, sets_by, one_set}
-use Rattle.exec_group.specs.Inner.Keys.{aggregate_sets, block_at, regrid_sets}
-use Rattle.exec_group.specs.Told.{AreRowsOfSets}
+use Rattle.group_rows.specs.Sets.{unless_empty, sets_by, one_set}
+use Rattle.group_rows.specs.Inner.Keys.{aggregate_sets, block_at, regrid_sets}
+use Rattle.group_rows.specs.Told.{AreRowsOfSets}
 
 -- what is told of each row's group, at a coordinate
 told_at : (group : Coordinate → Coordinate) (tell : Coordinate → Cell) (rows : List Row) (c : Coordinate)

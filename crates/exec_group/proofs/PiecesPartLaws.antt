@@ -14,10 +14,10 @@ use Rattle.array_rows.specs.Boxes.{is_inside, within}
 use Rattle.array_rows.specs.Rows.{placed}
 use Rattle.array_geom.specs.Geometry.{coordinate_in, core, frame_low, frame_lengths}
 use Rattle.array_geom.specs.Link.{chunk_rows, rows_in}
-use Rattle.exec_group.specs.Inner.Keys.{core_of}
-use Rattle.exec_group.specs.Counts.{cells_in_all}
-use Rattle.exec_group.specs.declared.rows.groups.Groups.{Groups}
-use Rattle.exec_group.specs.Grouped.{ArePartsOf}
+use Rattle.group_rows.specs.Inner.Keys.{core_of}
+use Rattle.group_rows.specs.Counts.{cells_in_all}
+use Rattle.group_rows.specs.declared.rows.groups.Groups.{Groups}
+use Rattle.group_rows.specs.Grouped.{ArePartsOf}
 use Rattle.logical_plan.specs.declared.parts.Aggregate.{Aggregate}
 use Rattle.exec_group.specs.Inner.Parts.{IsPartOf, IsBlockPartOf, sets_of, block_sets_of, cells_held}
 

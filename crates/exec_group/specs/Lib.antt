@@ -1,7 +1,2 @@
-pub mod Counts
-pub mod Grouped
 pub mod Inner
 pub mod Meant
-pub mod Sets
-pub mod Taken
-pub mod Told

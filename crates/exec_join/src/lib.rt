@@ -1,8 +1,6 @@
-//! `join` and `cross_join`: of rows, and of whole arrays.
+//! `join` and `cross_join` of whole arrays, chunk by chunk.
 #![tactic(auto)]
 
 mod arrays;
-mod rows;
 
 pub use arrays::{cross_join, join};
-pub use rows::{cross_of_rows, join_of_rows};

@@ -7,7 +7,7 @@ use Rattle.std.specs.Cmp.Lexicographic.{slice_cmp}
 use Rattle.cell_values.specs.declared.schema.Dimension.{Dimension}
 use Rattle.chunk_source.specs.Boxes.{by_pairs}
 use Rattle.chunk_source.proofs.NumberLaws.{same_number, is_equal}
-use Rattle.page_slots.specs.declared.layout.logs.RecordAt.{RecordAt}
+use Rattle.page_chain.specs.declared.slots.layout.logs.RecordAt.{RecordAt}
 use Rattle.page_file.specs.Pages.{page_size, has_page}
 use Rattle.page_file.specs.Chains.{names_page}
 use Rattle.chunk_map.specs.declared.directory.DirEntry.{DirEntry}

@@ -2,9 +2,9 @@
 use Rattle.std.proofs.Common.{◌≡◌, ◌<◌, inl, ℕ, true, List, [], ◌∷◌, ◌++◌, length, slice_index, refl, sym, ◌∙◌, ap, subst, arith}
 use Rattle.std.specs.Prelude.{Ok}
 use Rattle.std.specs.List.{AllByRecursion}
-use Rattle.page_slots.specs.Places.{IsNone}
-use Rattle.page_slots.specs.declared.layout.roots.Root.{Root}
-use Rattle.page_slots.specs.declared.layout.sides.Side.{Side}
+use Rattle.page_chain.specs.Places.{IsNone}
+use Rattle.page_chain.specs.declared.slots.layout.roots.Root.{Root}
+use Rattle.page_chain.specs.declared.slots.layout.sides.Side.{Side}
 use Rattle.page_file.specs.Pages.{page_size, has_page}
 use Rattle.page_file.specs.Chains.{chain, chain_bytes}
 use Rattle.page_file.specs.Links.{AreFree}

@@ -4,7 +4,7 @@ use Rattle.std.specs.Prelude.{Ok, IsTrue}
 use Rattle.std.specs.List.{AllByRecursion, AllZip}
 use Rattle.cell_values.specs.declared.datum.Row.{Row}
 use Rattle.cell_values.specs.declared.schema.Schema.{Schema}
-use Rattle.page_slots.specs.Places.{IsNone, KeepsPages}
+use Rattle.page_chain.specs.Places.{IsNone, KeepsPages}
 use Rattle.page_file.specs.Pages.{page_size, has_page, first_past}
 use Rattle.page_file.specs.Chains.{names_page}
 use Rattle.chunk_map.specs.declared.directory.DirEntry.{DirEntry}

@@ -13,8 +13,8 @@ use Rattle.chunk_rle.specs.Frames.{frame_of}
 use Rattle.chunk_rle.specs.Chunks.{chunk_payload}
 use Rattle.version_catalog.specs.Databases.{Database, Version}
 use Rattle.file_meaning.specs.Standing.{HoldsPart, HoldsVersion, HoldsVersions, HoldsDatabase, HoldsFound, Stands}
-use Rattle.page_slots.specs.Places.{IsNone, KeepsPages}
-use Rattle.page_slots.specs.declared.layout.logs.RecordAt.{RecordAt}
+use Rattle.page_chain.specs.Places.{IsNone, KeepsPages}
+use Rattle.page_chain.specs.declared.slots.layout.logs.RecordAt.{RecordAt}
 use Rattle.page_file.specs.Pages.{page_size, first_past, blob}
 use Rattle.page_file.specs.Chains.{chain, chain_bytes}
 use Rattle.page_file.proofs.PageLaws.{chain_kept}

@@ -5,9 +5,9 @@ use Rattle.std.specs.List.{list_any}
 use Rattle.std.proofs.lemmas.Bool.Decides.{nat_tests}
 use Rattle.file_items.specs.Items.{◌>>=◌}
 use Rattle.cell_values.specs.declared.schema.Dimension.{Dimension}
-use Rattle.page_slots.specs.declared.layout.sides.Side.{Side}
-use Rattle.page_slots.specs.declared.layout.sides.Format.TheVariants.{One, Two}
-use Rattle.page_slots.specs.declared.layout.roots.Root.{Root}
+use Rattle.page_chain.specs.declared.slots.layout.sides.Side.{Side}
+use Rattle.page_chain.specs.declared.slots.layout.sides.Format.TheVariants.{One, Two}
+use Rattle.page_chain.specs.declared.slots.layout.roots.Root.{Root}
 use Rattle.page_file.specs.Pages.{page_size, has_page, blob}
 use Rattle.page_file.specs.Chains.{names_page, chain, chain_bytes}
 use Rattle.chunk_map.specs.declared.directory.DirEntry.{DirEntry}

@@ -6,7 +6,7 @@ use Rattle.std.proofs.lemmas.Bool.{and_parts}
 use Rattle.cell_values.specs.declared.datum.Row.{Row}
 use Rattle.cell_values.specs.declared.schema.Schema.{Schema}
 use Rattle.cell_values.specs.Schemas.{is_valid}
-use Rattle.page_slots.specs.Places.{IsNone}
+use Rattle.page_chain.specs.Places.{IsNone}
 use Rattle.chunk_map.specs.declared.directory.Directory.{Directory}
 use Rattle.chunk_map.specs.Entries.{AreRising}
 use Rattle.plan_changes.specs.Query.{Query}

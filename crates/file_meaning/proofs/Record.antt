@@ -3,8 +3,8 @@ use Rattle.std.proofs.Common.{◌≡◌, inr, ℕ, ◌+◌, false, true, Bool, �
 use Rattle.std.specs.Prelude.{nat_eq, Ok, IsTrue}
 use Rattle.std.specs.List.{AllByRecursion, list_any}
 use Rattle.std.proofs.lemmas.List.{length-append}
-use Rattle.page_slots.specs.Places.{IsNone}
-use Rattle.page_slots.specs.declared.layout.logs.RecordAt.{RecordAt}
+use Rattle.page_chain.specs.Places.{IsNone}
+use Rattle.page_chain.specs.declared.slots.layout.logs.RecordAt.{RecordAt}
 use Rattle.page_file.specs.Pages.{page_size, has_page}
 use Rattle.page_file.specs.Chains.{chain, chain_bytes}
 use Rattle.page_file.specs.Links.{AreFree}

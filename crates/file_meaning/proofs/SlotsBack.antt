@@ -4,13 +4,13 @@ use Rattle.std.specs.Prelude.{if◌then◌else◌, ◌==◌, slice_index_or, Opt
 use Rattle.std.proofs.lemmas.Bool.Decides.{nat_tests}
 use Rattle.file_items.specs.Items.{◌>>=◌}
 use Rattle.file_items.proofs.BytesLaws.{bind_ok, ok_is}
-use Rattle.page_slots.specs.Roots.{current}
-use Rattle.page_slots.specs.Logs.{record_at}
-use Rattle.page_slots.specs.Opens.{OpensAs, HasLog}
-use Rattle.page_slots.specs.declared.layout.sides.Format.{Format}
-use Rattle.page_slots.specs.declared.layout.sides.Format.TheVariants.{One, Two}
-use Rattle.page_slots.specs.declared.layout.roots.OpenRoot.{OpenRoot}
-use Rattle.page_slots.specs.declared.layout.logs.RecordAt.{RecordAt}
+use Rattle.page_chain.specs.Roots.{current}
+use Rattle.page_chain.specs.Logs.{record_at}
+use Rattle.page_chain.specs.Opens.{OpensAs, HasLog}
+use Rattle.page_chain.specs.declared.slots.layout.sides.Format.{Format}
+use Rattle.page_chain.specs.declared.slots.layout.sides.Format.TheVariants.{One, Two}
+use Rattle.page_chain.specs.declared.slots.layout.roots.OpenRoot.{OpenRoot}
+use Rattle.page_chain.specs.declared.slots.layout.logs.RecordAt.{RecordAt}
 use Rattle.page_file.specs.Pages.{page_size}
 use Rattle.page_file.specs.Chains.{names_page}
 use Rattle.file_meaning.specs.Slots.{Slots, is_any_open, log_from, log_of, slots_of, slots_in}

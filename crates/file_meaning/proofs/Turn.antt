@@ -1,7 +1,7 @@
 -- Free pages in another order.
 use Rattle.std.proofs.Common.{◌≢◌, ◌<◌, ℕ, zero, suc, List, [], ◌∷◌, ◌++◌, length, slice_index, sym, arith}
 use Rattle.std.specs.List.{AllByRecursion}
-use Rattle.page_slots.specs.Places.{IsNone}
+use Rattle.page_chain.specs.Places.{IsNone}
 use Rattle.page_file.specs.Pages.{AreDistinct}
 use Rattle.file_meaning.proofs.Parts.{front_all, rest_all}
 use Rattle.file_meaning.proofs.Apart.{both_all}

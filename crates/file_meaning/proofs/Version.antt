@@ -8,7 +8,7 @@ use Rattle.cell_values.specs.declared.datum.Row.{Row}
 use Rattle.cell_values.specs.declared.schema.Schema.{Schema}
 use Rattle.cell_values.specs.Schemas.{IsValid, is_valid, has_attributes, has_dimensions, are_distinct, names_of as names_in_schema, is_dimension, frame_fits}
 use Rattle.chunk_map.specs.Geometry.{has_core}
-use Rattle.page_slots.specs.Places.{IsNone, KeepsPages}
+use Rattle.page_chain.specs.Places.{IsNone, KeepsPages}
 use Rattle.page_file.specs.Pages.{page_size, has_page, first_past, blob}
 use Rattle.page_file.specs.Chains.{names_page}
 use Rattle.page_file.proofs.PageLaws.{blob_read}

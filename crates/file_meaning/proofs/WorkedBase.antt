@@ -1,7 +1,7 @@
 -- An array that is removed by a new base, computed: what the law of bases asks, and what it says.
 use Rattle.std.proofs.Common.{◌≡◌, ◌≢◌, ◌<◌, ◌≤◌, inr, ℕ, zero, suc, ◌+◌, ◌*◌, List, [], ◌∷◌, ◌++◌, length, slice_index, None, Ok, refl, sym, ◌∙◌, ap, subst, arith}
-use Rattle.page_slots.specs.Places.{IsNone, KeepsPages, number_at}
-use Rattle.page_slots.specs.declared.layout.sides.Side.TheVariants.{B}
+use Rattle.page_chain.specs.Places.{IsNone, KeepsPages, number_at}
+use Rattle.page_chain.specs.declared.slots.layout.sides.Side.TheVariants.{B}
 use Rattle.page_file.specs.Pages.{page_size, page_at}
 use Rattle.page_file.specs.Chains.{chain_piece}
 use Rattle.page_file.specs.Links.{AreFree}

@@ -11,9 +11,9 @@ use Rattle.chunk_source.proofs.CoreLaws.{core_of}
 use Rattle.chunk_source.proofs.NearLemmas.{valid_placed}
 use Rattle.chunk_source.proofs.NumberLaws.{same_number, is_equal}
 use Rattle.file_items.specs.Pages.{pages_at}
-use Rattle.page_slots.specs.Places.{number_at}
-use Rattle.page_slots.specs.declared.layout.sides.Side.TheVariants.{A}
-use Rattle.page_slots.specs.declared.layout.sides.Format.TheVariants.{Two}
+use Rattle.page_chain.specs.Places.{number_at}
+use Rattle.page_chain.specs.declared.slots.layout.sides.Side.TheVariants.{A}
+use Rattle.page_chain.specs.declared.slots.layout.sides.Format.TheVariants.{Two}
 use Rattle.page_file.specs.Pages.{page_size}
 use Rattle.chunk_map.specs.declared.directory.DirEntry.{DirEntry}
 use Rattle.chunk_map.specs.declared.directory.Directory.{Directory}

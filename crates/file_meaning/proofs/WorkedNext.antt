@@ -1,6 +1,6 @@
 -- An array that is stored again, computed: what the law of records asks, and what it says.
 use Rattle.std.proofs.Common.{◌≡◌, ◌≢◌, ◌<◌, ◌≤◌, ◌⊎◌, inl, inr, ℕ, zero, suc, ◌+◌, ◌-◌, ◌*◌, List, [], ◌∷◌, ◌++◌, length, slice_index, Some, Ok, refl, sym, ◌∙◌, ap, subst, arith}
-use Rattle.page_slots.specs.Places.{IsNone, KeepsPages, number_at}
+use Rattle.page_chain.specs.Places.{IsNone, KeepsPages, number_at}
 use Rattle.page_file.specs.Pages.{page_size, page_at, piece_of}
 use Rattle.page_file.specs.Chains.{chain_piece}
 use Rattle.page_file.specs.Links.{AreFree}

@@ -1,14 +1,14 @@
 -- What is known of the databases that files stand for.
 use Rattle.std.specs.Prelude.{◌≡◌, ◌⊎◌, ℕ, ◌<◌, slice_index, true, List, [], ◌∷◌, ◌++◌, Ok}
 use Rattle.std.specs.List.{AllByRecursion}
-use Rattle.page_slots.specs.Places.{IsNone, KeepsPages}
-use Rattle.page_slots.specs.Opens.{OpensAs, WrongAt}
-use Rattle.page_slots.specs.declared.layout.roots.OpenRoot.{OpenRoot}
-use Rattle.page_slots.specs.declared.layout.logs.RecordAt.{RecordAt}
+use Rattle.page_chain.specs.Places.{IsNone, KeepsPages}
+use Rattle.page_chain.specs.Opens.{OpensAs, WrongAt}
+use Rattle.page_chain.specs.declared.slots.layout.roots.OpenRoot.{OpenRoot}
+use Rattle.page_chain.specs.declared.slots.layout.logs.RecordAt.{RecordAt}
 use Rattle.page_file.specs.Start.{IsEmptyDatabase}
-use Rattle.page_slots.specs.declared.layout.sides.Side.{Side}
-use Rattle.page_slots.specs.declared.layout.sides.Format.TheVariants.{One, Two}
-use Rattle.page_slots.specs.declared.layout.roots.Root.{Root}
+use Rattle.page_chain.specs.declared.slots.layout.sides.Side.{Side}
+use Rattle.page_chain.specs.declared.slots.layout.sides.Format.TheVariants.{One, Two}
+use Rattle.page_chain.specs.declared.slots.layout.roots.Root.{Root}
 use Rattle.file_items.specs.Pages.{pages_needed}
 use Rattle.page_file.specs.Pages.{page_size, pages_for}
 use Rattle.page_file.specs.Chains.{names_page}

@@ -3,11 +3,11 @@ use Rattle.std.specs.Prelude.{◌≡◌, ◌⊎◌, ℕ, ◌<◌, true, false, n
 use Rattle.std.specs.List.{AllByRecursion, filter}
 use Rattle.cell_values.specs.declared.datum.Row.{Row}
 use Rattle.cell_values.specs.declared.schema.Schema.{Schema}
-use Rattle.page_slots.specs.Places.{IsNone, KeepsPages}
-use Rattle.page_slots.specs.declared.layout.sides.Side.{Side}
-use Rattle.page_slots.specs.declared.layout.sides.Format.TheVariants.{One}
-use Rattle.page_slots.specs.declared.layout.roots.Root.{Root}
-use Rattle.page_slots.specs.Standing.{root_in}
+use Rattle.page_chain.specs.Places.{IsNone, KeepsPages}
+use Rattle.page_chain.specs.declared.slots.layout.sides.Side.{Side}
+use Rattle.page_chain.specs.declared.slots.layout.sides.Format.TheVariants.{One}
+use Rattle.page_chain.specs.declared.slots.layout.roots.Root.{Root}
+use Rattle.page_chain.specs.Standing.{root_in}
 use Rattle.page_file.specs.Pages.{page_size, first_past}
 use Rattle.page_file.specs.Links.{AreFree}
 use Rattle.chunk_rle.specs.Chunks.{spelling}

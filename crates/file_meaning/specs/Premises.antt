@@ -5,11 +5,11 @@ use Rattle.cell_values.specs.declared.datum.Row.{Row}
 use Rattle.cell_values.specs.declared.schema.Schema.{Schema}
 use Rattle.chunk_map.specs.Geometry.{ChunkNumber, has_core}
 use Rattle.chunk_map.specs.Link.{is_listed, has_cell}
-use Rattle.page_slots.specs.Places.{IsNone, KeepsPages}
-use Rattle.page_slots.specs.declared.layout.logs.RecordAt.{RecordAt}
-use Rattle.page_slots.specs.declared.layout.roots.Root.{Root}
-use Rattle.page_slots.specs.declared.layout.sides.Side.{Side}
-use Rattle.page_slots.specs.declared.layout.sides.Format.TheVariants.{Two}
+use Rattle.page_chain.specs.Places.{IsNone, KeepsPages}
+use Rattle.page_chain.specs.declared.slots.layout.logs.RecordAt.{RecordAt}
+use Rattle.page_chain.specs.declared.slots.layout.roots.Root.{Root}
+use Rattle.page_chain.specs.declared.slots.layout.sides.Side.{Side}
+use Rattle.page_chain.specs.declared.slots.layout.sides.Format.TheVariants.{Two}
 use Rattle.page_file.specs.Pages.{page_size, pages_for, first_past, HoldsBlob}
 use Rattle.page_file.specs.Chains.{content_size, HoldsChain}
 use Rattle.page_file.specs.Links.{AreFree}

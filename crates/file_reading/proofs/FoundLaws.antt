@@ -1,12 +1,12 @@
 -- All that a file keeps, part by part.
 use Rattle.std.proofs.Common.{◌≡◌, ℕ, List, [], ◌∷◌, ◌++◌, Option, Some, IfSome, Result, Ok, Err, refl, sym, ◌∙◌, ap, subst}
 use Rattle.file_items.specs.Items.{◌>>=◌}
-use Rattle.page_slots.specs.declared.layout.roots.Root.{Root}
+use Rattle.page_chain.specs.declared.slots.layout.roots.Root.{Root}
 use Rattle.page_chain.specs.Pages.{page_size}
 use Rattle.page_chain.specs.Chains.{chain, chain_bytes}
 use Rattle.page_chain.specs.declared.fault.OpenCause.{OpenCause}
 use Rattle.page_chain.specs.declared.fault.OpenCause.TheVariants.{Disk, NotDatabase, Memory}
-use Rattle.page_slots.specs.declared.slots.slots.Slots.{Slots as FileSlots}
+use Rattle.page_chain.specs.declared.slots.slots.slots.Slots.{Slots as FileSlots}
 use Rattle.chunk_map.specs.declared.directory.Directory.{Directory}
 use Rattle.version_catalog.specs.declared.rules.catalog.Catalog.{Catalog}
 use Rattle.version_catalog.specs.Table.{catalog_in}

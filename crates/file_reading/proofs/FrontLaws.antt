@@ -4,7 +4,7 @@ use Rattle.std.specs.Prelude.{◌&&◌, ◌||◌, nat_eq, nat_lt, not}
 use Rattle.std.specs.List.{list_any}
 use Rattle.std.proofs.lemmas.Bool.Decides.{nat_tests}
 use Rattle.std.proofs.lemmas.List.Folds.{list_any-append}
-use Rattle.page_slots.specs.declared.layout.logs.RecordAt.{RecordAt}
+use Rattle.page_chain.specs.declared.slots.layout.logs.RecordAt.{RecordAt}
 use Rattle.page_chain.specs.Pages.{page_size, has_page}
 use Rattle.page_chain.specs.Chains.{chain}
 use Rattle.page_chain.proofs.LinkLaws.{chain_linked}

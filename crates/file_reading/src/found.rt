@@ -3,7 +3,7 @@ ghost use Rattle.std.specs.Prelude.{◌≡◌, ◌≤◌, ◌∷◌, ◌++◌, [
 ghost use Rattle.std.specs.List.{AllZip};
 ghost use Rattle.afl_outside.specs.Counts.{Rose};
 ghost use Rattle.page_chain.specs.Inner.Runs.{OnlyReads};
-ghost use Rattle.page_slots.specs.Standing.{IsSound};
+ghost use Rattle.page_chain.specs.Standing.{IsSound};
 ghost use Rattle.version_catalog.specs.Catalogs.{IsCatalog};
 ghost use Rattle.version_reaper.specs.PageSets.{holds, is_held};
 ghost use Rattle.file_meaning.specs.Opening.{all_of, catalogue_pages, found_in, rows_in, stored_pages};

@@ -2,7 +2,7 @@
 ghost use Rattle.std.specs.Prelude.{◌≡◌, ◌<◌, ◌≤◌, ℕ, List, ◌∷◌, ◌++◌, [], length, slice_index_or, Some, Ok, OnOk, IsErrOf};
 ghost use Rattle.afl_outside.specs.Counts.{Rose};
 ghost use Rattle.page_chain.specs.Inner.Runs.{OnlyReads};
-ghost use Rattle.page_slots.specs.declared.layout.logs.RecordAt.{RecordAt};
+ghost use Rattle.page_chain.specs.declared.slots.layout.logs.RecordAt.{RecordAt};
 ghost use Rattle.version_catalog.specs.Catalogs.{IsCatalog};
 ghost use Rattle.file_meaning.specs.Opening.{all_of, logged_in};
 ghost use Rattle.file_reading.specs.Inner.Log.{GoesOn, behind_log};

@@ -4,7 +4,7 @@ use Rattle.std.proofs.lemmas.List.{drop_at, take_all, length-take, length-replic
 use Rattle.std.proofs.lemmas.Bool.{cases_lt}
 use Rattle.std.proofs.lemmas.Grind.{same_number_lists}
 use Rattle.afl_outside.specs.Disk.{written, Torn}
-use Rattle.page_slots.specs.Places.{IsNone, KeepsPages}
+use Rattle.page_chain.specs.Places.{IsNone, KeepsPages}
 use Rattle.page_chain.specs.Pages.{page_size, page_at}
 
 pub size_is : page_size ≡ 4096

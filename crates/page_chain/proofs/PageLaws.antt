@@ -8,7 +8,7 @@ use Rattle.std.proofs.Math.Seq.{take-append-add, take-length}
 use Rattle.std.proofs.lemmas.List.{drop_at, drop-drop, take_all, length-take, take-append-le, take-append-drop, append-nil}
 use Rattle.std.proofs.lemmas.Nat.{from_le_bytes-to_le_bytes_4}
 use Rattle.std.proofs.lemmas.Bool.Decides.{nat_tests}
-use Rattle.page_slots.specs.Places.{IsNone, KeepsPages}
+use Rattle.page_chain.specs.Places.{IsNone, KeepsPages}
 use Rattle.page_chain.specs.Pages.{page_size, page_at, has_page, pages_for, blob, first_past, padded, piece_of, HoldsBlob}
 use Rattle.page_chain.specs.Chains.{content_size, content_of, names_page, chain, chain_bytes, chain_piece, HoldsChain}
 use Rattle.page_chain.proofs.Kept.{size_is, page_kept}

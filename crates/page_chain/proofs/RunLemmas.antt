@@ -5,7 +5,7 @@ use Rattle.std.specs.Prelude.{IsTrue, IfSome, Some, None}
 use Rattle.std.specs.declared.option.Option.{Option}
 use Rattle.afl_outside.specs.Disk.{DiskState, DiskGoesOn, Elapses, LeavesOnly, Follows}
 use Rattle.afl_outside.proofs.Moments.{started, goes_on, moment_at}
-use Rattle.page_slots.specs.Places.{IsNone, KeepsPages}
+use Rattle.page_chain.specs.Places.{IsNone, KeepsPages}
 use Rattle.page_chain.specs.Inner.Runs.{OnlyReads, OnlyWrites, Over, Sees}
 use Rattle.page_chain.proofs.Kept.{keeps_self, keeps_on, keeps_more}
 

@@ -3,7 +3,7 @@ use Rattle.std.proofs.Common.{◌≡◌, ◌≢◌, ◌<◌, ℕ, zero, suc, Boo
 use Rattle.std.specs.Prelude.{◌&&◌, ◌||◌, not, nat_eq, nat_lt, Ok}
 use Rattle.std.specs.List.{list_any}
 use Rattle.std.proofs.lemmas.Bool.Decides.{nat_tests}
-use Rattle.page_slots.specs.Places.{IsNone}
+use Rattle.page_chain.specs.Places.{IsNone}
 use Rattle.page_chain.specs.Pages.{page_size, has_page}
 use Rattle.page_chain.specs.Chains.{names_page, chain}
 use Rattle.page_chain.proofs.LinkLaws.{unequal, chain_linked, linked_chain}

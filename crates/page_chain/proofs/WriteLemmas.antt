@@ -8,7 +8,7 @@ use Rattle.afl_outside.proofs.Moments.{moment_at}
 use Rattle.afl_outside.specs.Disk.{DiskState, DiskGoesOn, Elapses, Follows, written, Torn, Writes}
 use Rattle.afl_outside.specs.Lemmas.TornLaws.{Torn-written}
 use Rattle.afl_outside.specs.declared.source.Failed.{Failed}
-use Rattle.page_slots.specs.Places.{IsNone, KeepsPages}
+use Rattle.page_chain.specs.Places.{IsNone, KeepsPages}
 use Rattle.page_chain.specs.Pages.{page_size, page_at, padded, piece_of, AreDistinct}
 use Rattle.page_chain.specs.Chains.{content_size, chain_piece}
 use Rattle.page_chain.specs.Inner.Runs.{OnlyWrites, Sees}

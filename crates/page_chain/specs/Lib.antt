@@ -1,4 +1,14 @@
+pub use Rattle.afl_outside.specs.Counts
+pub use Rattle.afl_outside.specs.Disk
+pub use Rattle.afl_outside.specs.Lemmas.TornLaws
 pub mod Chains
 pub mod Inner
 pub mod Links
+pub mod Logs
+pub mod Opens
 pub mod Pages
+pub mod Places
+pub mod Puts
+pub mod Roots
+pub mod Standing
+pub mod Steps

@@ -1,6 +1,6 @@
 -- A chain told by its links, and pages that a chain may be written to.
 use Rattle.std.specs.Prelude.{◌≡◌, ℕ, ◌+◌, ◌<◌, ◌^◌, List, length, slice_index, true}
-use Rattle.page_slots.specs.Places.{IsNone}
+use Rattle.page_chain.specs.Places.{IsNone}
 use Rattle.page_chain.specs.Pages.{page_size, pages_for, AreDistinct}
 use Rattle.page_chain.specs.Chains.{content_size, names_page, next_of}
 

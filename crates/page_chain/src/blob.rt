@@ -3,7 +3,7 @@ ghost use Rattle.std.specs.Prelude.{◌≡◌, length, IfSome, IfOk, OnOk, IsErr
 ghost use Rattle.afl_outside.specs.Disk.{FailsWithCause};
 ghost use Rattle.afl_outside.specs.Counts.{Rose};
 ghost use Rattle.page_chain.specs.Pages.{page_size, pages_for, AreDistinct, IsBlobRead, HoldsBlob};
-ghost use Rattle.page_slots.specs.Places.{KeepsPages};
+ghost use Rattle.page_chain.specs.Places.{KeepsPages};
 ghost use Rattle.page_chain.specs.Inner.Runs.{OnlyReads, OnlyWrites, Sees};
 
 use crate::fault::{BlobFault, Stopped};

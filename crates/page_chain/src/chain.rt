@@ -5,7 +5,7 @@ ghost use Rattle.std.specs.Int.{w32, to_le_bytes, from_le_bytes};
 ghost use Rattle.std.specs.FinSet.{from_list};
 ghost use Rattle.afl_outside.specs.Counts.{Rose};
 ghost use Rattle.page_chain.specs.Pages.{page_size, pages_for, padded, AreDistinct};
-ghost use Rattle.page_slots.specs.Places.{KeepsPages};
+ghost use Rattle.page_chain.specs.Places.{KeepsPages};
 ghost use Rattle.page_chain.specs.Chains.{content_size, IsChainRead, IsFollowed, HoldsChain};
 ghost use Rattle.page_chain.specs.Inner.Runs.{OnlyReads, OnlyWrites, Sees};
 
@@ -20,7 +20,7 @@ use std::alloc::Global;
 const LINK: usize = 4;
 
 /// A link: the page that holds it, and the page that it names.
-#[derive(Clone, Copy, Debug, PartialEq, Eq)]
+#[derive(Clone, Copy)]
 pub struct Link {
     pub holder: u32,
     pub page: u32,

@@ -5,7 +5,7 @@ use cell_values::Memory;
 use thiserror::Error;
 
 /// Why a page was not read.
-#[derive(Clone, Copy, Debug, PartialEq, Eq)]
+#[derive(Clone, Copy)]
 pub(crate) enum Stopped {
     /// The disk failed.
     Disk,
@@ -14,7 +14,7 @@ pub(crate) enum Stopped {
 }
 
 /// Why a blob was not read.
-#[derive(Clone, Copy, Debug, PartialEq, Eq, Error)]
+#[derive(Clone, Copy, Debug, Error)]
 pub enum BlobFault {
     #[error("the disk failed")]
     Disk,
@@ -25,7 +25,7 @@ pub enum BlobFault {
 }
 
 /// Why a file, or a part of it, was not opened.
-#[derive(Clone, Copy, Debug, PartialEq, Eq, Error)]
+#[derive(Clone, Copy, Debug, Error)]
 pub enum OpenCause {
     #[error("the disk failed")]
     Disk,

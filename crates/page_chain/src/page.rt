@@ -4,7 +4,7 @@ ghost use Rattle.afl_outside.specs.Disk.{FailsWithCause};
 ghost use Rattle.std.specs.Bool.{OnTrue};
 ghost use Rattle.afl_outside.specs.Counts.{Rose};
 ghost use Rattle.page_chain.specs.Pages.{page_size, page_at, has_page, padded};
-ghost use Rattle.page_slots.specs.Places.{KeepsPages};
+ghost use Rattle.page_chain.specs.Places.{KeepsPages};
 ghost use Rattle.page_chain.specs.Inner.Runs.{OnlyReads, OnlyWrites, Sees};
 
 use crate::fault::Stopped;

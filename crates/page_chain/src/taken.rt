@@ -1,7 +1,7 @@
 //! Chains where other pages are taken.
 
 ghost use Rattle.std.specs.Prelude.{◌≡◌, ◌<◌, ℕ, List, Ok};
-ghost use Rattle.page_slots.specs.Places.{IsNone};
+ghost use Rattle.page_chain.specs.Places.{IsNone};
 ghost use Rattle.page_chain.specs.Pages.{page_size};
 ghost use Rattle.page_chain.specs.Chains.{chain};
 

@@ -1,7 +1,7 @@
 //! What chains and blobs are, apart from the calls that read and write them: their links, and what writes do to them.
 
 ghost use Rattle.std.specs.Prelude.{◌≡◌, ◌↔◌, ℕ, ◌<◌, List, length, slice_index, None, Ok};
-ghost use Rattle.page_slots.specs.Places.{IsNone, KeepsPages};
+ghost use Rattle.page_chain.specs.Places.{IsNone, KeepsPages};
 ghost use Rattle.page_chain.specs.Pages.{page_size, pages_for, blob, first_past, HoldsBlob};
 ghost use Rattle.page_chain.specs.Chains.{content_size, chain, chain_bytes, HoldsChain};
 ghost use Rattle.page_chain.specs.Links.{AreLinked, AreFree};

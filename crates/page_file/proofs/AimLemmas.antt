@@ -1,11 +1,11 @@
 -- Another target keeps the slots sound.
 use Rattle.std.proofs.Common.{◌≡◌, ℕ, List, false, None, IfSome}
-use Rattle.page_slots.specs.Places.{other, SameBut}
-use Rattle.page_slots.specs.Standing.{ZeroHolds, IsAlone, IsSound, filled_gate, entry_gate}
-use Rattle.page_slots.specs.Steps.{aimed}
-use Rattle.page_slots.specs.declared.slots.slots.Slots.{Slots}
-use Rattle.page_slots.specs.declared.slots.slots.Target.{Target}
-use Rattle.page_slots.specs.declared.slots.slots.Target.TheVariants as targets
+use Rattle.page_chain.specs.Places.{other, SameBut}
+use Rattle.page_chain.specs.Standing.{ZeroHolds, IsAlone, IsSound, filled_gate, entry_gate}
+use Rattle.page_chain.specs.Steps.{aimed}
+use Rattle.page_chain.specs.declared.slots.slots.slots.Slots.{Slots}
+use Rattle.page_chain.specs.declared.slots.slots.slots.Target.{Target}
+use Rattle.page_chain.specs.declared.slots.slots.slots.Target.TheVariants as targets
 use Rattle.page_file.proofs.Emptied.{other_emptied, log_emptied, still_root, still_entry, root_unfilled, entry_unfilled}
 
 pub aimed_sound : (target : Target) (slots : Slots) (seen : List ℕ) (may_leave : List ℕ → Type 0) → slots.doubtful ≡ false → IsSound slots seen may_leave → IsSound (aimed target slots) seen may_leave

@@ -1,15 +1,15 @@
 -- Nothing that was written for the target counts: what is known stays true.
 use Rattle.std.proofs.Common.{◌≡◌, ℕ, ◌+◌, ◌*◌, List, length, IfSome, refl}
-use Rattle.page_slots.specs.declared.layout.sides.Side.{Side}
-use Rattle.page_slots.specs.declared.layout.sides.Format.{Format}
-use Rattle.page_slots.specs.declared.layout.sides.Format.TheVariants.{One, Two}
-use Rattle.page_slots.specs.declared.layout.logs.RecordAt.{RecordAt}
-use Rattle.page_slots.specs.Standing.{OtherHolds, NextHolds, LogHolds, IsStillRoot, IsStillEntry, filled_root, filled_entry}
-use Rattle.page_slots.specs.Steps.{emptied_root, emptied_entry}
-use Rattle.page_slots.specs.declared.slots.slots.RootSlot.{RootSlot}
-use Rattle.page_slots.specs.declared.slots.slots.RootSlot.TheVariants as roots
-use Rattle.page_slots.specs.declared.slots.slots.NextEntry.{NextEntry}
-use Rattle.page_slots.specs.declared.slots.slots.NextEntry.TheVariants as entries
+use Rattle.page_chain.specs.declared.slots.layout.sides.Side.{Side}
+use Rattle.page_chain.specs.declared.slots.layout.sides.Format.{Format}
+use Rattle.page_chain.specs.declared.slots.layout.sides.Format.TheVariants.{One, Two}
+use Rattle.page_chain.specs.declared.slots.layout.logs.RecordAt.{RecordAt}
+use Rattle.page_chain.specs.Standing.{OtherHolds, NextHolds, LogHolds, IsStillRoot, IsStillEntry, filled_root, filled_entry}
+use Rattle.page_chain.specs.Steps.{emptied_root, emptied_entry}
+use Rattle.page_chain.specs.declared.slots.slots.slots.RootSlot.{RootSlot}
+use Rattle.page_chain.specs.declared.slots.slots.slots.RootSlot.TheVariants as roots
+use Rattle.page_chain.specs.declared.slots.slots.slots.NextEntry.{NextEntry}
+use Rattle.page_chain.specs.declared.slots.slots.slots.NextEntry.TheVariants as entries
 
 pub other_emptied : (known : RootSlot) (side : Side) (sequence : ℕ) (c : List ℕ) → OtherHolds known side sequence c → OtherHolds (emptied_root known) side sequence c
 other_emptied roots.Closed side sequence c hold = hold

@@ -7,22 +7,22 @@ use Rattle.std.proofs.lemmas.List.{get_or_append_left, get_or-append_right, get_
 use Rattle.std.proofs.lemmas.Grind.{same_number_lists}
 use Rattle.std.proofs.lemmas.Bool.{cases_lt}
 use Rattle.std.proofs.lemmas.Bool.Decides.{nat_tests}
-use Rattle.page_slots.specs.Disk.{written}
-use Rattle.page_slots.specs.TornLaws.{Torn-written}
-use Rattle.page_slots.specs.Places.{number_at, SameBut}
-use Rattle.page_slots.specs.Roots.{has_front, text_number, root_at, slot_in, current}
-use Rattle.page_slots.specs.declared.layout.sides.Side.TheVariants.{A, B}
-use Rattle.page_slots.specs.declared.layout.sides.Format.TheVariants.{Two}
-use Rattle.page_slots.specs.declared.layout.roots.Root.{Root}
-use Rattle.page_slots.proofs.Kept.{number_kept, root_moved}
+use Rattle.page_chain.specs.Disk.{written}
+use Rattle.page_chain.specs.TornLaws.{Torn-written}
+use Rattle.page_chain.specs.Places.{number_at, SameBut}
+use Rattle.page_chain.specs.Roots.{has_front, text_number, root_at, slot_in, current}
+use Rattle.page_chain.specs.declared.slots.layout.sides.Side.TheVariants.{A, B}
+use Rattle.page_chain.specs.declared.slots.layout.sides.Format.TheVariants.{Two}
+use Rattle.page_chain.specs.declared.slots.layout.roots.Root.{Root}
+use Rattle.page_chain.proofs.SlotsKept.{number_kept, root_moved}
 use Rattle.page_chain.specs.Pages.{page_at, has_page}
 use Rattle.page_chain.specs.Chains.{chain, chain_bytes, after, next_of}
 use Rattle.page_chain.proofs.Kept.{size_is}
-use Rattle.page_slots.specs.Standing.{IsZeroed, PageHolds, root_in}
-use Rattle.page_slots.specs.declared.slots.slots.NextEntry.TheVariants as entries
-use Rattle.page_slots.proofs.Bytes.{written_same, written_byte}
-use Rattle.page_slots.proofs.RootImages.{open_gate, zero_gate, is_newest}
-use Rattle.page_slots.proofs.LogImages.{page_log, empty_page}
+use Rattle.page_chain.specs.Standing.{IsZeroed, PageHolds, root_in}
+use Rattle.page_chain.specs.declared.slots.slots.slots.NextEntry.TheVariants as entries
+use Rattle.page_chain.proofs.Bytes.{written_same, written_byte}
+use Rattle.page_chain.proofs.RootImages.{open_gate, zero_gate, is_newest}
+use Rattle.page_chain.proofs.LogImages.{page_log, empty_page}
 use Rattle.page_file.specs.Inner.Laid.{head_bytes, laid, made}
 use Rattle.page_file.specs.Start.{IsEmptyDatabase, first_root}
 

@@ -1,20 +1,20 @@
 -- What was read is what is known.
 use Rattle.std.proofs.Common.{ℕ, List, length, Option, None, refl, sym, subst, arith}
-use Rattle.page_slots.specs.Disk.{Only}
-use Rattle.page_slots.specs.Places.{other}
-use Rattle.page_slots.specs.Opens.{HasLog, OpensAs}
-use Rattle.page_slots.specs.declared.layout.sides.Format.{Format}
-use Rattle.page_slots.specs.declared.layout.sides.Format.TheVariants.{One, Two}
-use Rattle.page_slots.specs.declared.layout.logs.RecordAt.{RecordAt}
-use Rattle.page_slots.specs.Standing.{OtherHolds, LogHolds, Holds, ZeroHolds, IsAlone, IsStillRoot, IsStillEntry, IsSound, filled_gate}
-use Rattle.page_slots.specs.declared.slots.slots.Slots.{Slots}
-use Rattle.page_slots.specs.declared.slots.slots.RootSlot.{RootSlot}
-use Rattle.page_slots.specs.declared.slots.slots.RootSlot.TheVariants as roots
-use Rattle.page_slots.specs.declared.slots.slots.NextEntry.{NextEntry}
-use Rattle.page_slots.specs.declared.slots.slots.NextEntry.TheVariants as entries
-use Rattle.page_slots.specs.declared.slots.slots.Target.{Target}
-use Rattle.page_slots.specs.declared.slots.slots.Target.TheVariants as targets
-use Rattle.page_slots.proofs.RootCommits.{all_same}
+use Rattle.page_chain.specs.Disk.{Only}
+use Rattle.page_chain.specs.Places.{other}
+use Rattle.page_chain.specs.Opens.{HasLog, OpensAs}
+use Rattle.page_chain.specs.declared.slots.layout.sides.Format.{Format}
+use Rattle.page_chain.specs.declared.slots.layout.sides.Format.TheVariants.{One, Two}
+use Rattle.page_chain.specs.declared.slots.layout.logs.RecordAt.{RecordAt}
+use Rattle.page_chain.specs.Standing.{OtherHolds, LogHolds, Holds, ZeroHolds, IsAlone, IsStillRoot, IsStillEntry, IsSound, filled_gate}
+use Rattle.page_chain.specs.declared.slots.slots.slots.Slots.{Slots}
+use Rattle.page_chain.specs.declared.slots.slots.slots.RootSlot.{RootSlot}
+use Rattle.page_chain.specs.declared.slots.slots.slots.RootSlot.TheVariants as roots
+use Rattle.page_chain.specs.declared.slots.slots.slots.NextEntry.{NextEntry}
+use Rattle.page_chain.specs.declared.slots.slots.slots.NextEntry.TheVariants as entries
+use Rattle.page_chain.specs.declared.slots.slots.slots.Target.{Target}
+use Rattle.page_chain.specs.declared.slots.slots.slots.Target.TheVariants as targets
+use Rattle.page_chain.proofs.RootCommits.{all_same}
 use Rattle.page_file.specs.OpeningOpened.{IsRead, AreFresh}
 use Rattle.page_file.proofs.Fronts.{chosen}
 

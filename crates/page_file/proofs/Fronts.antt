@@ -2,17 +2,17 @@
 use Rattle.std.proofs.Common.{◌≡◌, ◌≢◌, ◌<◌, ◌≤◌, ◌⊎◌, inl, inr, ⊎_elim, ℕ, List, slice_index, if◌then◌else◌, Bool, true, Option, Some, None, refl, sym, ◌∙◌, ap, subst, arith}
 use Rattle.std.proofs.lemmas.Bool.{cases_lt}
 use Rattle.std.proofs.lemmas.Bool.Decides.{nat_tests}
-use Rattle.page_slots.specs.Places.{gate_of, body_of, other}
-use Rattle.page_slots.specs.Roots.{has_front, root_at, slot_in, opened, newer, current}
-use Rattle.page_slots.specs.declared.layout.sides.Side.{Side}
-use Rattle.page_slots.specs.declared.layout.sides.Side.TheVariants.{A, B}
-use Rattle.page_slots.specs.declared.layout.sides.Format.{Format}
-use Rattle.page_slots.specs.declared.layout.sides.Format.TheVariants.{One, Two}
-use Rattle.page_slots.specs.declared.layout.roots.Root.{Root}
-use Rattle.page_slots.specs.declared.layout.roots.OpenRoot.{OpenRoot}
-use Rattle.page_slots.specs.Standing.{root_in}
-use Rattle.page_slots.proofs.RootImages.{opened_cases}
-use Rattle.page_slots.proofs.Opening.{same_sequence}
+use Rattle.page_chain.specs.Places.{gate_of, body_of, other}
+use Rattle.page_chain.specs.Roots.{has_front, root_at, slot_in, opened, newer, current}
+use Rattle.page_chain.specs.declared.slots.layout.sides.Side.{Side}
+use Rattle.page_chain.specs.declared.slots.layout.sides.Side.TheVariants.{A, B}
+use Rattle.page_chain.specs.declared.slots.layout.sides.Format.{Format}
+use Rattle.page_chain.specs.declared.slots.layout.sides.Format.TheVariants.{One, Two}
+use Rattle.page_chain.specs.declared.slots.layout.roots.Root.{Root}
+use Rattle.page_chain.specs.declared.slots.layout.roots.OpenRoot.{OpenRoot}
+use Rattle.page_chain.specs.Standing.{root_in}
+use Rattle.page_chain.proofs.RootImages.{opened_cases}
+use Rattle.page_chain.proofs.Opening.{same_sequence}
 
 -- what the current slot is, and the other one beside it
 pub record Chosen (it : OpenRoot) (file : List ℕ) : Type 0 where

@@ -1,27 +1,27 @@
 -- A page that was written stands there after the log entry was.
 use Rattle.std.proofs.Common.{◌≡◌, ◌≢◌, ◌<◌, ◌≤◌, ℕ, zero, suc, ◌+◌, Bool, List, [], ◌∷◌, length, slice_index, IsTrue, Option, Some, None, IfSome, sym, ◌∙◌, ap, subst, arith}
-use Rattle.page_slots.proofs.Moments.{seeing, telling}
-use Rattle.page_slots.specs.Disk.{DiskState, DiskGoesOn, Torn, Only}
-use Rattle.page_slots.specs.Places.{gate_of, body_of, IsNone, KeepsPages, IsPage}
-use Rattle.page_slots.specs.declared.layout.sides.Side.{Side}
-use Rattle.page_slots.specs.declared.layout.sides.Side.TheVariants.{A, B}
-use Rattle.page_slots.specs.declared.layout.roots.Root.{Root}
-use Rattle.page_slots.specs.declared.layout.sides.Format.TheVariants.{Two}
+use Rattle.page_chain.proofs.Moments.{seeing, telling}
+use Rattle.page_chain.specs.Disk.{DiskState, DiskGoesOn, Torn, Only}
+use Rattle.page_chain.specs.Places.{gate_of, body_of, IsNone, KeepsPages, IsPage}
+use Rattle.page_chain.specs.declared.slots.layout.sides.Side.{Side}
+use Rattle.page_chain.specs.declared.slots.layout.sides.Side.TheVariants.{A, B}
+use Rattle.page_chain.specs.declared.slots.layout.roots.Root.{Root}
+use Rattle.page_chain.specs.declared.slots.layout.sides.Format.TheVariants.{Two}
 use Rattle.page_chain.specs.Pages.{page_size}
 use Rattle.page_chain.specs.Chains.{HoldsChain}
 use Rattle.page_chain.specs.Inner.Runs.{Sees}
 use Rattle.page_chain.proofs.Kept.{size_is, page_kept}
 use Rattle.page_chain.proofs.WriteLemmas.{length-chain_piece}
-use Rattle.page_slots.specs.Puts.{SeesTorn}
-use Rattle.page_slots.specs.Standing.{entry_gate, Holds, IsReady, IsShutRoot, IsSound, IsTarget, KeepsSound, IsDurable}
-use Rattle.page_slots.specs.Steps.{emptied_root}
-use Rattle.page_slots.specs.declared.slots.slots.RootSlot.{RootSlot}
-use Rattle.page_slots.specs.declared.slots.slots.RootSlot.TheVariants as roots
-use Rattle.page_slots.specs.declared.slots.slots.Target.{Target}
-use Rattle.page_slots.specs.declared.slots.slots.Target.TheVariants as targets
-use Rattle.page_slots.specs.declared.slots.slots.Slots.{Slots}
-use Rattle.page_slots.proofs.Lies.{long_front, has_log}
-use Rattle.page_slots.proofs.Within.{torn_within}
+use Rattle.page_chain.specs.Puts.{SeesTorn}
+use Rattle.page_chain.specs.Standing.{entry_gate, Holds, IsReady, IsShutRoot, IsSound, IsTarget, KeepsSound, IsDurable}
+use Rattle.page_chain.specs.Steps.{emptied_root}
+use Rattle.page_chain.specs.declared.slots.slots.slots.RootSlot.{RootSlot}
+use Rattle.page_chain.specs.declared.slots.slots.slots.RootSlot.TheVariants as roots
+use Rattle.page_chain.specs.declared.slots.slots.slots.Target.{Target}
+use Rattle.page_chain.specs.declared.slots.slots.slots.Target.TheVariants as targets
+use Rattle.page_chain.specs.declared.slots.slots.slots.Slots.{Slots}
+use Rattle.page_chain.proofs.Lies.{long_front, has_log}
+use Rattle.page_chain.proofs.Within.{torn_within}
 
 pub at_some : (o : Option (List ℕ)) (x : List ℕ) (P : List ℕ → Type 0) → o ≡ Some x → IfSome o P → P x
 at_some None x P is h = absurd (cc is)

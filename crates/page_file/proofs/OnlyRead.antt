@@ -1,8 +1,8 @@
 -- A disk that was only read leaves the slots sound.
 use Rattle.std.proofs.Common.{ℕ, List, Option, Some, None, IfSome}
-use Rattle.page_slots.specs.Places.{SameBut}
-use Rattle.page_slots.specs.Standing.{IsSound, filled_gate}
-use Rattle.page_slots.specs.declared.slots.slots.Slots.{Slots}
+use Rattle.page_chain.specs.Places.{SameBut}
+use Rattle.page_chain.specs.Standing.{IsSound, filled_gate}
+use Rattle.page_chain.specs.declared.slots.slots.slots.Slots.{Slots}
 
 fewer : (o : Option ℕ) (seen : List ℕ) (before now : List ℕ → Type 0) → ((c : List ℕ) → now c → before c) → IfSome o (λ at. (c : List ℕ) → before c → SameBut at 1 seen c) → IfSome o (λ at. (c : List ℕ) → now c → SameBut at 1 seen c)
 fewer None seen before now less filled = tt

@@ -1,26 +1,26 @@
 -- A slot that was opened, or may be open.
 use Rattle.std.proofs.Common.{◌≡◌, ◌⊎◌, inl, inr, ⊎_elim, ℕ, true, false, List, [], ◌∷◌, ◌++◌, IsTrue, Option, Some, None, IfSome, ◌∙◌, ap, subst}
-use Rattle.page_slots.proofs.Moments.{seeing}
-use Rattle.page_slots.specs.Disk.{DiskState, Follows, Torn}
-use Rattle.page_slots.specs.Places.{other}
-use Rattle.page_slots.specs.Opens.{OpensAs}
-use Rattle.page_slots.specs.declared.layout.sides.Format.TheVariants.{Two}
-use Rattle.page_slots.specs.declared.layout.roots.Root.{Root}
-use Rattle.page_slots.specs.declared.layout.roots.OpenRoot.{OpenRoot}
-use Rattle.page_slots.specs.declared.layout.logs.RecordAt.{RecordAt}
+use Rattle.page_chain.proofs.Moments.{seeing}
+use Rattle.page_chain.specs.Disk.{DiskState, Follows, Torn}
+use Rattle.page_chain.specs.Places.{other}
+use Rattle.page_chain.specs.Opens.{OpensAs}
+use Rattle.page_chain.specs.declared.slots.layout.sides.Format.TheVariants.{Two}
+use Rattle.page_chain.specs.declared.slots.layout.roots.Root.{Root}
+use Rattle.page_chain.specs.declared.slots.layout.roots.OpenRoot.{OpenRoot}
+use Rattle.page_chain.specs.declared.slots.layout.logs.RecordAt.{RecordAt}
 use Rattle.page_chain.specs.Pages.{page_size}
 use Rattle.page_chain.specs.Chains.{HoldsChain}
-use Rattle.page_slots.specs.Standing.{root_in, Holds, IsSound, IsStillRoot, IsStillEntry, KeepsSound, MayOpen, OpensAsRoot}
-use Rattle.page_slots.specs.Steps.{ajar, ajar_root, ajar_entry, doubted, with_target, with_other, with_next, with_root, with_record}
-use Rattle.page_slots.specs.declared.slots.slots.Slots.{Slots}
-use Rattle.page_slots.specs.declared.slots.slots.RootSlot.{RootSlot}
-use Rattle.page_slots.specs.declared.slots.slots.RootSlot.TheVariants as roots
-use Rattle.page_slots.specs.declared.slots.slots.NextEntry.{NextEntry}
-use Rattle.page_slots.specs.declared.slots.slots.NextEntry.TheVariants as entries
-use Rattle.page_slots.specs.declared.slots.slots.Target.{Target}
-use Rattle.page_slots.specs.declared.slots.slots.Target.TheVariants as targets
-use Rattle.page_slots.proofs.Opening.{may_open}
-use Rattle.page_slots.proofs.Settling.{no_root, no_record, settled}
+use Rattle.page_chain.specs.Standing.{root_in, Holds, IsSound, IsStillRoot, IsStillEntry, KeepsSound, MayOpen, OpensAsRoot}
+use Rattle.page_chain.specs.Steps.{ajar, ajar_root, ajar_entry, doubted, with_target, with_other, with_next, with_root, with_record}
+use Rattle.page_chain.specs.declared.slots.slots.slots.Slots.{Slots}
+use Rattle.page_chain.specs.declared.slots.slots.slots.RootSlot.{RootSlot}
+use Rattle.page_chain.specs.declared.slots.slots.slots.RootSlot.TheVariants as roots
+use Rattle.page_chain.specs.declared.slots.slots.slots.NextEntry.{NextEntry}
+use Rattle.page_chain.specs.declared.slots.slots.slots.NextEntry.TheVariants as entries
+use Rattle.page_chain.specs.declared.slots.slots.slots.Target.{Target}
+use Rattle.page_chain.specs.declared.slots.slots.slots.Target.TheVariants as targets
+use Rattle.page_chain.proofs.Opening.{may_open}
+use Rattle.page_chain.proofs.Settling.{no_root, no_record, settled}
 
 entered : (slots later : Slots) (at : RecordAt) → slots.target ≡ targets.Record → slots.next ≡ entries.Written at → later ≡ with_target slots.target slots → later ≡ with_record at slots
 entered slots later at target next is = is ∙ ap (λ (t : Target). with_target t slots) target ∙ ap (λ (n : NextEntry). with_next n slots) next

@@ -3,10 +3,10 @@ use Rattle.std.proofs.Common.{◌≡◌, inr, ⊎_elim, ℕ, ◌+◌, ◌*◌, L
 use Rattle.std.proofs.lemmas.List.{get_or-take, get_or-drop}
 use Rattle.std.proofs.lemmas.Bool.{cases_eq}
 use Rattle.std.proofs.lemmas.Bool.Decides.{nat_tests}
-use Rattle.page_slots.proofs.Moments.{moment_at}
-use Rattle.page_slots.specs.Disk.{ReadsAt, DiskState}
-use Rattle.page_slots.specs.Puts.{OnlySyncs}
-use Rattle.page_slots.proofs.PutLemmas.{goes_twice, if_some}
+use Rattle.page_chain.proofs.Moments.{moment_at}
+use Rattle.page_chain.specs.Disk.{ReadsAt, DiskState}
+use Rattle.page_chain.specs.Puts.{OnlySyncs}
+use Rattle.page_chain.proofs.PutLemmas.{goes_twice, if_some}
 use Rattle.page_file.specs.OpeningOpened.{HasPage, CutsPage}
 
 pub page_whole : (number count : ℕ) (page seen : List ℕ) → length page ≡ 4096 → ReadsAt seen (number * 4096) count page → count ≡ 4096 → HasPage number page seen

@@ -1,14 +1,14 @@
 -- A put within a page is a write of that page.
 use Rattle.std.proofs.Common.{◌≡◌, ◌≤◌, ℕ, ◌+◌, ◌*◌, List, [], ◌∷◌, length, Some, IfSome}
-use Rattle.page_slots.proofs.Moments.{moment_at}
-use Rattle.page_slots.specs.Disk.{DiskState, Torn}
-use Rattle.page_slots.specs.Places.{KeepsPages}
+use Rattle.page_chain.proofs.Moments.{moment_at}
+use Rattle.page_chain.specs.Disk.{DiskState, Torn}
+use Rattle.page_chain.specs.Places.{KeepsPages}
 use Rattle.page_chain.specs.Inner.Runs.{OnlyWrites, Sees}
 use Rattle.page_chain.specs.Inner.Runs as runs
-use Rattle.page_slots.specs.Puts.{OnlyPuts, SeesTorn}
-use Rattle.page_slots.specs.Puts as puts
-use Rattle.page_slots.proofs.PutLemmas.{if_some_with, wider}
-use Rattle.page_slots.proofs.Within.{torn_within}
+use Rattle.page_chain.specs.Puts.{OnlyPuts, SeesTorn}
+use Rattle.page_chain.specs.Puts as puts
+use Rattle.page_chain.proofs.PutLemmas.{if_some_with, wider}
+use Rattle.page_chain.proofs.Within.{torn_within}
 
 pub put_writes : (page at n : ℕ) (old new : DiskState) (past since : ℕ → List ℕ → Type 0) (before now : List ℕ → Type 0) → 4096 * page ≤ at → at + n ≤ 4096 * (page + 1) → ((d : List ℕ) → before d → 4096 * (page + 1) ≤ length d)
     → OnlyPuts at n (moment_at old past before) (moment_at new since now) → OnlyWrites (page ∷ []) (moment_at old past before) (moment_at new since now)

@@ -1,11 +1,11 @@
 -- What was written is opened.
 use Rattle.std.proofs.Common.{◌≡◌, ℕ, Bool, List, IsTrue, Option, Some, None, IfSome, sym, subst}
-use Rattle.page_slots.proofs.Moments.{seeing}
-use Rattle.page_slots.specs.Disk.{DiskState, DiskGoesOn, Only}
+use Rattle.page_chain.proofs.Moments.{seeing}
+use Rattle.page_chain.specs.Disk.{DiskState, DiskGoesOn, Only}
 use Rattle.page_chain.specs.Pages.{page_size}
 use Rattle.page_chain.specs.Chains.{HoldsChain}
-use Rattle.page_slots.specs.Standing.{IsSound, KeepsSound}
-use Rattle.page_slots.specs.declared.slots.slots.Slots.{Slots}
+use Rattle.page_chain.specs.Standing.{IsSound, KeepsSound}
+use Rattle.page_chain.specs.declared.slots.slots.slots.Slots.{Slots}
 use Rattle.page_file.proofs.Kept.{at_some}
 
 pub sealed : (old mid new : DiskState) (before between now : List ℕ → Type 0) (slots later : Slots) (pages bytes : List ℕ) (P Q : List ℕ → Type 0) → DiskGoesOn old mid → KeepsSound slots later (seeing old before) (seeing mid between)

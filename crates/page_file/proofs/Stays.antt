@@ -1,26 +1,26 @@
 -- Pages that aren't page 0 or the log page were written: the slots stay sound.
 use Rattle.std.proofs.Common.{◌≡◌, ◌<◌, ◌≤◌, ℕ, ◌+◌, ◌-◌, ◌*◌, true, false, List, length, slice_index, Option, Some, None, IfSome, sym, ◌∙◌, ap, subst, arith}
 use Rattle.std.proofs.lemmas.Bool.Decides.{nat_tests}
-use Rattle.page_slots.proofs.Moments.{moment_at, seeing, stated}
-use Rattle.page_slots.specs.Disk.{DiskState, Follows, LeavesOnly}
-use Rattle.page_slots.specs.Places.{other, IsNone, KeepsPages, SameBut}
-use Rattle.page_slots.specs.Roots.{has_front}
-use Rattle.page_slots.specs.declared.layout.sides.Format.{Format}
-use Rattle.page_slots.specs.declared.layout.sides.Format.TheVariants.{One, Two}
-use Rattle.page_slots.specs.declared.layout.logs.RecordAt.{RecordAt}
+use Rattle.page_chain.proofs.Moments.{moment_at, seeing, stated}
+use Rattle.page_chain.specs.Disk.{DiskState, Follows, LeavesOnly}
+use Rattle.page_chain.specs.Places.{other, IsNone, KeepsPages, SameBut}
+use Rattle.page_chain.specs.Roots.{has_front}
+use Rattle.page_chain.specs.declared.slots.layout.sides.Format.{Format}
+use Rattle.page_chain.specs.declared.slots.layout.sides.Format.TheVariants.{One, Two}
+use Rattle.page_chain.specs.declared.slots.layout.logs.RecordAt.{RecordAt}
 use Rattle.page_chain.specs.Inner.Runs.{Over, OnlyWrites, Sees}
-use Rattle.page_slots.specs.Standing.{Holds, LogHolds, IsClosed, IsSound, IsAlone, IsStillRoot, ZeroHolds, filled_gate, entry_gate, KeepsSound, LeavesOpening, MayOpen}
-use Rattle.page_slots.specs.Steps.{emptied_root, emptied_entry, emptied}
-use Rattle.page_slots.specs.declared.slots.slots.Slots.{Slots}
-use Rattle.page_slots.specs.declared.slots.slots.NextEntry.{NextEntry}
-use Rattle.page_slots.specs.declared.slots.slots.Target.{Target}
-use Rattle.page_slots.specs.declared.slots.slots.Target.TheVariants as targets
-use Rattle.page_slots.proofs.RootImages.{roots_kept}
-use Rattle.page_slots.proofs.LogImages.{page_kept}
-use Rattle.page_slots.proofs.Opening.{may_open}
-use Rattle.page_slots.proofs.PutLemmas.{if_some, wider}
+use Rattle.page_chain.specs.Standing.{Holds, LogHolds, IsClosed, IsSound, IsAlone, IsStillRoot, ZeroHolds, filled_gate, entry_gate, KeepsSound, LeavesOpening, MayOpen}
+use Rattle.page_chain.specs.Steps.{emptied_root, emptied_entry, emptied}
+use Rattle.page_chain.specs.declared.slots.slots.slots.Slots.{Slots}
+use Rattle.page_chain.specs.declared.slots.slots.slots.NextEntry.{NextEntry}
+use Rattle.page_chain.specs.declared.slots.slots.slots.Target.{Target}
+use Rattle.page_chain.specs.declared.slots.slots.slots.Target.TheVariants as targets
+use Rattle.page_chain.proofs.RootImages.{roots_kept}
+use Rattle.page_chain.proofs.LogImages.{page_kept}
+use Rattle.page_chain.proofs.Opening.{may_open}
+use Rattle.page_chain.proofs.PutLemmas.{if_some, wider}
 use Rattle.page_chain.specs.Pages.{page_size, HoldsBlob}
-use Rattle.page_slots.specs.Standing.{IsZeroed}
+use Rattle.page_chain.specs.Standing.{IsZeroed}
 use Rattle.page_file.specs.Written.{MayWrite, unwritten, zeroed_by}
 use Rattle.page_file.proofs.Zeros.{unwritten_holds, zeroed_holds}
 use Rattle.page_file.proofs.Emptied.{other_emptied, log_emptied, still_root, still_entry, root_unfilled, entry_unfilled}

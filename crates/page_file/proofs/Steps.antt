@@ -1,6 +1,6 @@
 -- How an honest disk's bytes go on from write to write.
 use Rattle.std.proofs.Common.{◌≡◌, ℕ, List, IsTrue, Option, Some, None, IfSome, sym, ◌∙◌, subst}
-use Rattle.page_slots.specs.Disk.{DiskState, DiskGoesOn, Only}
+use Rattle.page_chain.specs.Disk.{DiskState, DiskGoesOn, Only}
 use Rattle.page_file.specs.Inner.Laid.{Lays}
 
 pub lays_on : (a b c : DiskState) (f g : List ℕ → List ℕ) → DiskGoesOn a b → Lays f a b → Lays g b c → Lays (λ x. g (f x)) a c

@@ -1,22 +1,22 @@
 -- From a page that was read to the file.
 use Rattle.std.proofs.Common.{◌≡◌, ◌≢◌, ◌<◌, ◌≤◌, inl, inr, ℕ, ◌+◌, ◌*◌, List, length, slice_index, nat_le, ◌==◌, ◌&&◌, ◌||◌, if◌then◌else◌, Bool, true, false, MatchBool, Option, Some, None, IfSome, IfOk, Result, Ok, Err, refl, sym, ◌∙◌, ap, subst, arith}
 use Rattle.std.proofs.lemmas.Bool.Decides.{nat_tests}
-use Rattle.page_slots.specs.Disk.{DiskState, Only}
-use Rattle.page_slots.specs.Places.{number_at, gate_of, body_of, other}
-use Rattle.page_slots.specs.Roots.{has_front, slot_in, newer, current, text_number}
-use Rattle.page_slots.specs.Logs.{HasStray}
-use Rattle.page_slots.specs.Opens.{OpensAs}
-use Rattle.page_slots.specs.declared.layout.sides.Side.{Side}
-use Rattle.page_slots.specs.declared.layout.sides.Side.TheVariants.{A, B}
-use Rattle.page_slots.specs.declared.layout.roots.Root.{Root}
-use Rattle.page_slots.specs.declared.layout.roots.OpenRoot.{OpenRoot}
-use Rattle.page_slots.specs.declared.layout.logs.RecordAt.{RecordAt}
-use Rattle.page_slots.proofs.Kept.{number_kept, root_kept, log_moved}
-use Rattle.page_slots.specs.Standing.{OtherHolds, IsSound}
-use Rattle.page_slots.specs.declared.slots.slots.Slots.{Slots}
-use Rattle.page_slots.specs.declared.slots.slots.RootSlot.{RootSlot}
-use Rattle.page_slots.specs.declared.slots.slots.RootSlot.TheVariants as roots
-use Rattle.page_slots.proofs.RootImages.{slot_kept, side_high, gate_then_body}
+use Rattle.page_chain.specs.Disk.{DiskState, Only}
+use Rattle.page_chain.specs.Places.{number_at, gate_of, body_of, other}
+use Rattle.page_chain.specs.Roots.{has_front, slot_in, newer, current, text_number}
+use Rattle.page_chain.specs.Logs.{HasStray}
+use Rattle.page_chain.specs.Opens.{OpensAs}
+use Rattle.page_chain.specs.declared.slots.layout.sides.Side.{Side}
+use Rattle.page_chain.specs.declared.slots.layout.sides.Side.TheVariants.{A, B}
+use Rattle.page_chain.specs.declared.slots.layout.roots.Root.{Root}
+use Rattle.page_chain.specs.declared.slots.layout.roots.OpenRoot.{OpenRoot}
+use Rattle.page_chain.specs.declared.slots.layout.logs.RecordAt.{RecordAt}
+use Rattle.page_chain.proofs.SlotsKept.{number_kept, root_kept, log_moved}
+use Rattle.page_chain.specs.Standing.{OtherHolds, IsSound}
+use Rattle.page_chain.specs.declared.slots.slots.slots.Slots.{Slots}
+use Rattle.page_chain.specs.declared.slots.slots.slots.RootSlot.{RootSlot}
+use Rattle.page_chain.specs.declared.slots.slots.slots.RootSlot.TheVariants as roots
+use Rattle.page_chain.proofs.RootImages.{slot_kept, side_high, gate_then_body}
 use Rattle.page_file.specs.OpeningOpened.{HasPage, CutsPage, FrontRead, PageLog, LogRead, IsRead, IsOpened, AreFresh, IsDeviceFault}
 use Rattle.page_chain.specs.declared.fault.OpenCause.{OpenCause}
 use Rattle.page_chain.specs.declared.fault.OpenCause.TheVariants.{Disk, NotDatabase, Memory}

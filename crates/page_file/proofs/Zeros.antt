@@ -6,11 +6,11 @@ use Rattle.std.proofs.lemmas.List.{get_or-take, get_or-drop, get_or_append_left,
 use Rattle.std.proofs.lemmas.List.Folds.{list_any_at, list_all_at}
 use Rattle.std.proofs.lemmas.Bool.{cases_eq, cases_lt}
 use Rattle.std.proofs.lemmas.Bool.Decides.{nat_tests}
-use Rattle.page_slots.specs.Places.{IsNone, KeepsPages}
+use Rattle.page_chain.specs.Places.{IsNone, KeepsPages}
 use Rattle.page_chain.specs.Pages.{page_size, page_at, piece_of, HoldsBlob}
 use Rattle.page_chain.proofs.Kept.{size_is}
 use Rattle.page_chain.proofs.WriteLemmas.{length-piece}
-use Rattle.page_slots.specs.Standing.{IsZeroed}
+use Rattle.page_chain.specs.Standing.{IsZeroed}
 use Rattle.page_file.specs.Written.{unwritten, zeroed_by}
 
 same_number : (a b : ℕ) → a ≡ b → nat_eq a b ≡ true

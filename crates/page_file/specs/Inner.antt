@@ -1,2 +1,3 @@
 pub mod Aims
+pub mod Going
 pub mod Laid

@@ -1,20 +1,20 @@
 -- What opening a file answers.
 use Rattle.std.specs.Prelude.{◌≡◌, ℕ, ◌+◌, ◌*◌, ◌<◌, ◌≤◌, ◌⊎◌, List, length, slice_index, false, Some, None, Result, Ok, Err}
-use Rattle.page_slots.specs.Counts.{Rose}
-use Rattle.page_slots.specs.Disk.{DiskState}
-use Rattle.page_slots.specs.Places.{other, IsPage}
-use Rattle.page_slots.specs.Roots.{current}
-use Rattle.page_slots.specs.Logs.{IsLog, HasStray}
-use Rattle.page_slots.specs.Opens.{HasLog, OpensAs, WrongAt}
-use Rattle.page_slots.specs.declared.layout.sides.Format.TheVariants.{Two}
-use Rattle.page_slots.specs.declared.layout.roots.OpenRoot.{OpenRoot}
-use Rattle.page_slots.specs.declared.layout.logs.RecordAt.{RecordAt}
-use Rattle.page_slots.specs.Standing.{OtherHolds}
-use Rattle.page_slots.specs.declared.slots.slots.RootSlot.{RootSlot}
-use Rattle.page_slots.specs.declared.slots.slots.RootSlot.TheVariants as roots
-use Rattle.page_slots.specs.declared.slots.slots.NextEntry.TheVariants as entries
-use Rattle.page_slots.specs.Steps.{first_target}
-use Rattle.page_slots.specs.declared.slots.slots.Slots.{Slots}
+use Rattle.page_chain.specs.Counts.{Rose}
+use Rattle.page_chain.specs.Disk.{DiskState}
+use Rattle.page_chain.specs.Places.{other, IsPage}
+use Rattle.page_chain.specs.Roots.{current}
+use Rattle.page_chain.specs.Logs.{IsLog, HasStray}
+use Rattle.page_chain.specs.Opens.{HasLog, OpensAs, WrongAt}
+use Rattle.page_chain.specs.declared.slots.layout.sides.Format.TheVariants.{Two}
+use Rattle.page_chain.specs.declared.slots.layout.roots.OpenRoot.{OpenRoot}
+use Rattle.page_chain.specs.declared.slots.layout.logs.RecordAt.{RecordAt}
+use Rattle.page_chain.specs.Standing.{OtherHolds}
+use Rattle.page_chain.specs.declared.slots.slots.slots.RootSlot.{RootSlot}
+use Rattle.page_chain.specs.declared.slots.slots.slots.RootSlot.TheVariants as roots
+use Rattle.page_chain.specs.declared.slots.slots.slots.NextEntry.TheVariants as entries
+use Rattle.page_chain.specs.Steps.{first_target}
+use Rattle.page_chain.specs.declared.slots.slots.slots.Slots.{Slots}
 use Rattle.page_chain.specs.declared.fault.OpenCause.{OpenCause}
 use Rattle.page_chain.specs.declared.fault.OpenCause.TheVariants.{Disk, NotDatabase, Memory}
 

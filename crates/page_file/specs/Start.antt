@@ -1,11 +1,11 @@
 -- The file of an empty database.
 use Rattle.std.specs.Prelude.{◌≡◌, ◌≢◌, ℕ, ◌*◌, List, [], ◌∷◌, length, Result, Ok, Err}
-use Rattle.page_slots.specs.Counts.{Rose}
-use Rattle.page_slots.specs.Disk.{DiskState}
-use Rattle.page_slots.specs.Opens.{OpensAs}
-use Rattle.page_slots.specs.declared.layout.sides.Side.TheVariants.{A}
-use Rattle.page_slots.specs.declared.layout.sides.Format.TheVariants.{Two}
-use Rattle.page_slots.specs.declared.layout.roots.OpenRoot.{OpenRoot}
+use Rattle.page_chain.specs.Counts.{Rose}
+use Rattle.page_chain.specs.Disk.{DiskState}
+use Rattle.page_chain.specs.Opens.{OpensAs}
+use Rattle.page_chain.specs.declared.slots.layout.sides.Side.TheVariants.{A}
+use Rattle.page_chain.specs.declared.slots.layout.sides.Format.TheVariants.{Two}
+use Rattle.page_chain.specs.declared.slots.layout.roots.OpenRoot.{OpenRoot}
 use Rattle.page_chain.specs.Pages.{page_size}
 use Rattle.page_chain.specs.Chains.{chain, chain_bytes}
 use Rattle.page_file.specs.declared.making.fault.InitFault.{InitFault}

@@ -1,10 +1,10 @@
 -- What writes of pages make of the slots.
 use Rattle.std.specs.Prelude.{ℕ, nat_eq, if◌then◌else◌, List, [], ◌∷◌, Option, Some, None}
 use Rattle.std.specs.List.{list_all, list_any}
-use Rattle.page_slots.specs.Places.{IsNone}
+use Rattle.page_chain.specs.Places.{IsNone}
 use Rattle.page_chain.specs.Pages.{AreDistinct}
-use Rattle.page_slots.specs.Steps.{emptied_root, emptied_entry}
-use Rattle.page_slots.specs.declared.slots.slots.Slots.{Slots}
+use Rattle.page_chain.specs.Steps.{emptied_root, emptied_entry}
+use Rattle.page_chain.specs.declared.slots.slots.slots.Slots.{Slots}
 
 -- pages that differ from one another, from page 0 and from the log page
 pub record MayWrite (pages : List ℕ) (slots : Slots) : Type 0 where

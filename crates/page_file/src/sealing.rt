@@ -1,22 +1,22 @@
 //! What a sealed commit leaves.
 
 ghost use Rattle.std.specs.Prelude.{◌≡◌, ◌≢◌, ◌<◌, ◌≤◌, ◌⊎◌, ◌+◌, ◌*◌, ◌∷◌, ◌++◌, [], ℕ, List, length, false, IsTrue, Some, IfSome, OnOk, OnErr};
-ghost use Rattle.page_slots.specs.Opens.{OpensAs};
-ghost use Rattle.page_slots.specs.Places.{other, IsNone, KeepsPages};
-ghost use Rattle.page_slots.specs.declared.layout.sides.Format.TheVariants.{Two};
-ghost use Rattle.page_slots.specs.declared.slots.slots.RootSlot.TheVariants as roots;
-ghost use Rattle.page_slots.specs.declared.slots.slots.NextEntry.TheVariants as entries;
-ghost use Rattle.page_slots.specs.Disk.{DiskGoesOn, Only};
+ghost use Rattle.page_chain.specs.Opens.{OpensAs};
+ghost use Rattle.page_chain.specs.Places.{other, IsNone, KeepsPages};
+ghost use Rattle.page_chain.specs.declared.slots.layout.sides.Format.TheVariants.{Two};
+ghost use Rattle.page_chain.specs.declared.slots.slots.slots.RootSlot.TheVariants as roots;
+ghost use Rattle.page_chain.specs.declared.slots.slots.slots.NextEntry.TheVariants as entries;
+ghost use Rattle.page_chain.specs.Disk.{DiskGoesOn, Only};
 ghost use Rattle.page_chain.specs.Pages.{page_size, pages_for};
 ghost use Rattle.page_chain.specs.Chains.{content_size, HoldsChain};
 ghost use Rattle.page_chain.specs.Inner.Runs.{OnlyWrites, Sees};
 ghost use Rattle.page_file.specs.Written.{MayWrite, pages_written, unwritten};
-ghost use Rattle.page_slots.specs.Puts.{OnlyPuts};
-ghost use Rattle.page_slots.specs.Standing.{root_in, IsClosed, IsSound, IsTarget, KeepsSound, OpensAsRoot};
-ghost use Rattle.page_slots.specs.declared.slots.slots.Target.TheVariants as targets;
+ghost use Rattle.page_chain.specs.Puts.{OnlyPuts};
+ghost use Rattle.page_chain.specs.Standing.{root_in, IsClosed, IsSound, IsTarget, KeepsSound, OpensAsRoot};
+ghost use Rattle.page_chain.specs.declared.slots.slots.slots.Target.TheVariants as targets;
 
 use crate::files::PageFile;
-use page_slots::{Disk, Failed, RecordAt, Root};
+use page_chain::{Disk, Failed, RecordAt, Root};
 
 /// A write within a page that each image has, also one that was torn, is a write of that page.
 pub fn puts_are_writes<D: Disk>()

@@ -7,11 +7,11 @@ use Rattle.cell_values.specs.declared.schema.Schema.{Schema}
 use Rattle.chunk_map.specs.declared.directory.Directory.{Directory}
 use Rattle.logical_plan.specs.declared.names.NameEntry.{NameEntry}
 use Rattle.logical_plan.specs.declared.names.Names.{Names}
-use Rattle.page_slots.specs.declared.layout.sides.Format.{Format}
-use Rattle.page_slots.specs.declared.layout.sides.Format.TheVariants.{One, Two}
-use Rattle.page_slots.specs.declared.slots.slots.Target.{Target}
-use Rattle.page_slots.specs.declared.slots.slots.Target.TheVariants.{Root, Record}
-use Rattle.page_slots.specs.Steps.{first_target}
+use Rattle.page_chain.specs.declared.slots.layout.sides.Format.{Format}
+use Rattle.page_chain.specs.declared.slots.layout.sides.Format.TheVariants.{One, Two}
+use Rattle.page_chain.specs.declared.slots.slots.slots.Target.{Target}
+use Rattle.page_chain.specs.declared.slots.slots.slots.Target.TheVariants.{Root, Record}
+use Rattle.page_chain.specs.Steps.{first_target}
 use Rattle.plan_changes.specs.declared.change.Change.{Change}
 use Rattle.plan_changes.specs.declared.change.Change.TheVariants.{Create, Store, Insert, Remove, RemoveVersions}
 use Rattle.plan_changes.specs.Changes.{entry_named, name_of, newest_of}

@@ -3,12 +3,12 @@ use Rattle.std.specs.Prelude.{◌≡◌, ◌<◌, ◌^◌, ℕ, List, slice_inde
 use Rattle.std.specs.List.{AllByRecursion}
 use Rattle.chunk_map.specs.declared.directory.Directory.{Directory}
 use Rattle.chunk_map.specs.Spelling.{IsDirectory}
-use Rattle.page_slots.specs.declared.slots.slots.Target.{Target}
-use Rattle.page_slots.specs.declared.slots.slots.Target.TheVariants.{Root, Record}
+use Rattle.page_chain.specs.declared.slots.slots.slots.Target.{Target}
+use Rattle.page_chain.specs.declared.slots.slots.slots.Target.TheVariants.{Root, Record}
 use Rattle.plan_changes.specs.declared.change.Change.{Change}
 use Rattle.version_catalog.specs.declared.rules.catalog.Catalog.{Catalog}
 use Rattle.catalog_changes.specs.Changed.{IsItsBlob}
-use Rattle.commit_writes.specs.Commits.{IsBlobSized, IsChainSized}
+use Rattle.page_file.specs.Commits.{IsBlobSized, IsChainSized}
 use Rattle.store_state.specs.Laid.{Laid}
 use Rattle.store_state.specs.Written.{Written}
 use Rattle.store_state.specs.Commits.{record_needs, base_needs, record_laid, base_laid}

@@ -2,8 +2,8 @@
 use Rattle.std.specs.Prelude.{◌≡◌, ℕ, ◌+◌, List, [], ◌∷◌, ◌++◌, length, Option, Some, None}
 use Rattle.array_geom.specs.declared.chunk.Changed.{Changed}
 use Rattle.chunk_map.specs.declared.directory.Directory.{Directory}
-use Rattle.page_slots.specs.declared.slots.slots.Target.{Target}
-use Rattle.page_slots.specs.declared.slots.slots.Target.TheVariants.{Root, Record}
+use Rattle.page_chain.specs.declared.slots.slots.slots.Target.{Target}
+use Rattle.page_chain.specs.declared.slots.slots.slots.Target.TheVariants.{Root, Record}
 use Rattle.plan_changes.specs.declared.change.Change.{Change}
 use Rattle.plan_changes.specs.Changes.{name_of, newest_of}
 use Rattle.version_catalog.specs.declared.rules.catalog.Catalog.{Catalog}

@@ -24,7 +24,7 @@ use Rattle.event_core.specs.Replay.{core_at}
 use Rattle.store_state.specs.Ledger.{has_room, history, is_noted, is_tried}
 use Rattle.store_versions.specs.Rows.{IsReadyFor}
 use Rattle.store_state.specs.Costs.{cost_from}
-use Rattle.commit_writes.specs.Commits.{IsBlobSized, IsChainSized}
+use Rattle.page_file.specs.Commits.{IsBlobSized, IsChainSized}
 use Rattle.store_state.specs.Laid.{Laid}
 use Rattle.store_state.specs.Changes.{ComesWith, AreValid, IsChangeOf}
 use Rattle.store_state.specs.declared.state.parts.StoreParts.{StoreParts}

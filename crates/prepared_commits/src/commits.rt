@@ -5,8 +5,7 @@ mod letting;
 mod prepared;
 
 pub use fault::PrepareFault;
-pub use letting::{
-    let_go_catalog, let_go_changed, let_go_doubt, let_go_pages, let_go_table, let_go_version,
-    let_go_written,
-};
+pub use file_meaning::let_go_catalog;
+pub use letting::{let_go_changed, let_go_doubt};
 pub use prepared::{NewBase, Prepared};
+pub use store_state::{let_go_pages, let_go_table, let_go_version, let_go_written};

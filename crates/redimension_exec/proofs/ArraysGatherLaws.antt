@@ -28,12 +28,12 @@ use Rattle.logical_plan.specs.Faults.{if_whole}
 use Rattle.logical_plan.specs.Groups.{aggregates_of}
 use Rattle.logical_plan.specs.Redimension.{Landed, origin_of, landed, landed_at, named, by_names, gathered_rows}
 use Rattle.logical_plan.specs.Typing.{is_kind_of}
-use Rattle.exec_group.specs.declared.rows.groups.Groups.{Groups}
-use Rattle.exec_group.specs.Counts.{cells_in}
-use Rattle.exec_group.specs.Sets.{unless_empty}
-use Rattle.exec_group.specs.Inner.Merging.{IsSetFor}
-use Rattle.exec_group.specs.Told.{IsRowOf, AreRowsOfSets}
-use Rattle.exec_group.proofs.ToldLaws.{told_rows, rows_of_target}
+use Rattle.group_rows.specs.declared.rows.groups.Groups.{Groups}
+use Rattle.group_rows.specs.Counts.{cells_in}
+use Rattle.group_rows.specs.Sets.{unless_empty}
+use Rattle.group_rows.specs.Inner.Merging.{IsSetFor}
+use Rattle.group_rows.specs.Told.{IsRowOf, AreRowsOfSets}
+use Rattle.group_rows.proofs.ToldLaws.{told_rows, rows_of_target}
 use Rattle.redimension_exec.specs.Inner.Grouping.{landed_sets, AreGroupsLanded, AreRowsTold}
 use Rattle.redimension_exec.proofs.LandedLaws.{all_landed}
 use Rattle.redimension_exec.proofs.OrderLaws.{Gathers, ordered, ordered_typed, ordered_kinds, cell_named}

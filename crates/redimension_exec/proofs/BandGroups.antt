@@ -12,12 +12,12 @@ use Rattle.array_rows.specs.Rows.{Coordinate, row_major, IsRising}
 use Rattle.logical_plan.specs.declared.parts.Aggregate.{Aggregate}
 use Rattle.logical_plan.specs.Faults.{if_whole}
 use Rattle.logical_plan.specs.Redimension.{Origin, Landing, Landed, lands, drops, breaks, landing_of, after_landing, landed, landed_at}
-use Rattle.exec_group.specs.declared.rows.groups.Groups.{Groups}
-use Rattle.exec_group.specs.Grouped.{AreGroupsOf}
-use Rattle.exec_group.specs.Counts.{cells_in}
-use Rattle.exec_group.specs.Sets.{AreApartSets, IsApart, Sets, both, both_sets, unless_empty}
-use Rattle.exec_group.proofs.FormLaws.{same_sets}
-use Rattle.exec_group.proofs.RowLemmas.{joined_apart, put_all_joined}
+use Rattle.group_rows.specs.declared.rows.groups.Groups.{Groups}
+use Rattle.group_rows.specs.Grouped.{AreGroupsOf}
+use Rattle.group_rows.specs.Counts.{cells_in}
+use Rattle.group_rows.specs.Sets.{AreApartSets, IsApart, Sets, both, both_sets, unless_empty}
+use Rattle.group_rows.proofs.FormLaws.{same_sets}
+use Rattle.group_rows.proofs.RowLemmas.{joined_apart, put_all_joined}
 use Rattle.redimension_fill.specs.Inner.Counting.{has_counted}
 use Rattle.redimension_exec.specs.Inner.Grouping.{AreGroupsLanded, landed_sets}
 use Rattle.redimension_exec.proofs.GroupLaws.{at_rises, rising_landed}

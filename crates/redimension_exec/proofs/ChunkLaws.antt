@@ -33,12 +33,12 @@ use Rattle.logical_plan.specs.Redimension.{Origin, Landing, Landed, lands, drops
 use Rattle.agg_states.specs.Stands.{AreApart}
 use Rattle.agg_states.proofs.Reorderings.{length-reordered}
 use Rattle.agg_states.proofs.Unions.{free_in_union, put_all-reordered}
-use Rattle.exec_group.specs.declared.rows.groups.Groups.{Groups}
-use Rattle.exec_group.specs.Counts.{cells_in}
-use Rattle.exec_group.specs.Grouped.{AreGroupsOf}
-use Rattle.exec_group.specs.Sets.{AreApartSets, IsApart, Sets, both, both_sets, unless_empty}
-use Rattle.exec_group.proofs.FormLaws.{same_sets}
-use Rattle.exec_group.proofs.RowLemmas.{both_apart}
+use Rattle.group_rows.specs.declared.rows.groups.Groups.{Groups}
+use Rattle.group_rows.specs.Counts.{cells_in}
+use Rattle.group_rows.specs.Grouped.{AreGroupsOf}
+use Rattle.group_rows.specs.Sets.{AreApartSets, IsApart, Sets, both, both_sets, unless_empty}
+use Rattle.group_rows.proofs.FormLaws.{same_sets}
+use Rattle.group_rows.proofs.RowLemmas.{both_apart}
 use Rattle.redimension_fill.specs.Inner.Bands.{AreBands}
 use Rattle.redimension_fill.specs.Inner.Counting.{has_counted}
 use Rattle.redimension_exec.specs.Inner.Grouping.{AreGroupsLanded, landed_sets}

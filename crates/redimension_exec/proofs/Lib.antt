@@ -6,5 +6,7 @@ pub mod LandedLaws
 pub mod LandingsGatherLaws
 pub mod MeantLaws
 pub mod OrderLaws
+pub mod SortLaws
 pub mod StateLaws
+pub mod TellLaws
 pub mod ValueLaws

@@ -16,11 +16,11 @@ use Rattle.array_rows.proofs.RowsLemmas.{same_coordinate}
 use Rattle.logical_plan.specs.declared.parts.Aggregate.{Aggregate}
 use Rattle.logical_plan.specs.Redimension.{Origin, Landed, landed, landed_at}
 use Rattle.agg_states.specs.Inner.Summary.{Summary}
-use Rattle.exec_group.specs.Grouped.{IsGroupOf}
-use Rattle.exec_group.specs.Sets.{Sets, unless_empty}
-use Rattle.exec_group.specs.Taken.{KeepsGroups, by_coordinate, rows_of, sets_with}
-use Rattle.exec_group.proofs.TakenLaws.{none_of, same_kept, set_rows, some_rows}
-use Rattle.exec_group.proofs.RowLemmas.{rising_left}
+use Rattle.group_rows.specs.Grouped.{IsGroupOf}
+use Rattle.group_rows.specs.Sets.{Sets, unless_empty}
+use Rattle.group_rows.specs.Taken.{KeepsGroups, by_coordinate, rows_of, sets_with}
+use Rattle.group_rows.proofs.TakenLaws.{none_of, same_kept, set_rows, some_rows}
+use Rattle.group_rows.proofs.RowLemmas.{rising_left}
 use Rattle.redimension_fill.specs.Inner.Counting.{has_counted}
 use Rattle.redimension_exec.specs.Inner.Grouping.{landed_sets}
 use Rattle.redimension_exec.specs.Inner.Taking.{HoldsStates, IsTaken, rows_in}

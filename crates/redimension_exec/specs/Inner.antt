@@ -1,2 +1,4 @@
 pub mod Grouping
+pub mod Sorting
 pub mod Taking
+pub mod Telling

@@ -3,6 +3,7 @@
 
 mod arrays;
 mod landings;
+mod telling;
 
 pub use arrays::{groups_landed, redimension, redimension_cells};
 pub use redimension_fill::bounds_of;

@@ -2,5 +2,4 @@ pub mod Bands
 pub mod Counting
 pub mod Filling
 pub mod Places
-pub mod Sorting
 pub mod Steps

@@ -1,8 +1,6 @@
-//! Chunks of a target without margins: filled with the rows that land as they come, and told in order.
+//! Chunks of a target without margins, filled with the rows that land as they come.
 
 mod chunks;
-mod telling;
 
 pub use chunks::no_margins;
 pub(crate) use chunks::{Filled, fill};
-pub use telling::told_array;

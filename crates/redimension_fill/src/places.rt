@@ -5,11 +5,9 @@ mod counting;
 mod filling;
 mod landing;
 mod numbers;
-mod ordering;
 mod places;
 
 pub use bounds::bounds_of;
 pub(crate) use filling::{Target, fill_rows};
 pub use numbers::first_numbers;
-pub(crate) use ordering::in_order;
 pub use places::{Place, places_of_attributes, places_of_dimensions};

@@ -5,7 +5,7 @@ use cell_values::{Coord, FaultKind, Span};
 use schema_grammar::TypeKind;
 
 /// Why a statement was refused.
-#[derive(Debug, Drop)]
+#[derive(Drop)]
 pub enum Refusal {
     /// It has more than 1,048,576 bytes: so many.
     TooLong { bytes: u64 },

@@ -6,7 +6,7 @@ use Rattle.std.proofs.lemmas.Bool.{and_parts, and_from, or_parts, or_from, not_f
 use Rattle.std.proofs.lemmas.List.Folds.{list_any-append}
 use Rattle.command_words.specs.Forms.{are_different, run_names, script_names}
 use Rattle.command_words.proofs.Heads.{unlike}
-use Rattle.session_reports.proofs.OutcomeLemmas.{fails_at}
+use Rattle.run_opening.proofs.OutcomeLemmas.{fails_at}
 use Rattle.run_opening.specs.Names.{HaveOwnNames, Word, reply_name, stream_names}
 
 -- a name that is none of these differs from each

@@ -9,8 +9,8 @@ use Rattle.afl_outside.specs.Counts.{Rose, risen}
 use Rattle.afl_outside.specs.Shelf.{ShelfState, LeavesOthers}
 use Rattle.afl_outside.specs.Sink.{SinkState, IsNewSink}
 use Rattle.afl_outside.specs.Source.{SourceState, IsNewSource}
-use Rattle.session_reports.specs.declared.notices.Notice.{Notice}
-use Rattle.session_reports.specs.declared.notices.Notice.TheVariants as notices
+use Rattle.run_opening.specs.declared.reports.notices.Notice.{Notice}
+use Rattle.run_opening.specs.declared.reports.notices.Notice.TheVariants as notices
 use Rattle.run_opening.specs.Names.{Word, reply_name}
 use Rattle.run_opening.specs.Opened.{FailsFor, FailsToOpen, HandsOut, HandsOutSome, IsSinkOf, IsSourceOf, IsUnopened, LeavesUnasked, StopsAt}
 use Rattle.run_opening.specs.Inner.Replying.{FailsAtReply, StopsAmong, StopsAmongScripts, StopsAtName}

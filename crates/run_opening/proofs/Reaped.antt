@@ -13,8 +13,8 @@ use Rattle.store_ledger.proofs.Pins.{one_more}
 use Rattle.store_state.specs.declared.state.event.Event.TheVariants.{Entered}
 use Rattle.store_state.specs.Standings.{Standing, with_entries}
 use Rattle.array_store.specs.Growth.{AddsEvents}
-use Rattle.session_reports.specs.declared.notices.Notice.{Notice}
-use Rattle.session_reports.specs.declared.notices.Notice.TheVariants.{Memory}
+use Rattle.run_opening.specs.declared.reports.notices.Notice.{Notice}
+use Rattle.run_opening.specs.declared.reports.notices.Notice.TheVariants.{Memory}
 use Rattle.run_opening.specs.Ends.{IsReaped}
 
 kept_out : (f t h : Bool) → f ≡ (t && h) → h ≡ true → (not f && t) ≡ false

@@ -5,7 +5,7 @@ use Rattle.afl_lexer.specs.Inner.Standing.{Splitting, StandsAfter}
 use Rattle.afl_outside.specs.Source.{SourceState}
 use Rattle.afl_outside.specs.Sink.{SinkState}
 use Rattle.afl_outside.specs.Shelf.{ShelfState}
-use Rattle.session_reports.specs.declared.reports.Streams.{Streams}
+use Rattle.run_opening.specs.declared.reports.reports.Streams.{Streams}
 use Rattle.run_opening.specs.Names.{Word, reply_name}
 use Rattle.run_opening.specs.Opened.{AreOpenedFor, IsSinkOf, IsSourceOf}
 use Rattle.run_opening.specs.Inner.Rooms.{streams_of}

@@ -8,10 +8,10 @@ use Rattle.file_meaning.specs.Opening.{IsWrongAt, Opens}
 use Rattle.file_meaning.specs.declared.meaning.found.Found.{Found}
 use Rattle.page_chain.specs.declared.fault.OpenCause.{OpenCause}
 use Rattle.page_chain.specs.declared.fault.OpenCause.TheVariants as causes
-use Rattle.page_slots.specs.Opens.{OpensAs}
-use Rattle.page_slots.specs.Puts.{OnlySyncs}
-use Rattle.session_reports.specs.declared.notices.Notice.{Notice}
-use Rattle.session_reports.specs.declared.notices.Notice.TheVariants as notices
+use Rattle.page_chain.specs.Opens.{OpensAs}
+use Rattle.page_chain.specs.Puts.{OnlySyncs}
+use Rattle.run_opening.specs.declared.reports.notices.Notice.{Notice}
+use Rattle.run_opening.specs.declared.reports.notices.Notice.TheVariants as notices
 use Rattle.store_opening.specs.Bases.{base_core}
 use Rattle.store_opening.specs.declared.opening.opening.Limits.{Limits}
 use Rattle.store_opening.specs.Opened.{versions_of}

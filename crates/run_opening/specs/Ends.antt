@@ -5,8 +5,8 @@ use Rattle.array_store.specs.Starts.{start_of}
 use Rattle.event_core.specs.declared.entry.Entry.TheVariants.{Reap}
 use Rattle.event_core.specs.Legal.{IsOrdered}
 use Rattle.plan_changes.specs.Databases.{Database}
-use Rattle.session_reports.specs.declared.notices.Notice.{Notice}
-use Rattle.session_reports.specs.declared.notices.Notice.TheVariants.{Memory}
+use Rattle.run_opening.specs.declared.reports.notices.Notice.{Notice}
+use Rattle.run_opening.specs.declared.reports.notices.Notice.TheVariants.{Memory}
 use Rattle.store_ledger.specs.Ledger.{IsLedger, history, reap_comes, unused_pages}
 use Rattle.store_state.specs.declared.state.event.Event.{Event}
 use Rattle.store_state.specs.declared.state.event.Event.TheVariants.{Entered}

@@ -5,4 +5,6 @@ pub mod Ends
 pub mod Held
 pub mod Inner
 pub mod Names
+pub mod Notice
 pub mod Opened
+pub mod Outcomes

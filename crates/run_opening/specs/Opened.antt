@@ -7,9 +7,9 @@ use Rattle.afl_outside.specs.Disk.{DiskState}
 use Rattle.afl_outside.specs.Source.{SourceState, IsNewSource}
 use Rattle.afl_outside.specs.Sink.{SinkState, IsNewSink}
 use Rattle.afl_outside.specs.Shelf.{ShelfState}
-use Rattle.session_reports.specs.declared.notices.Notice.{Notice}
-use Rattle.session_reports.specs.declared.notices.Notice.TheVariants as notices
-use Rattle.session_reports.specs.declared.reports.Streams.{Streams}
+use Rattle.run_opening.specs.declared.reports.notices.Notice.{Notice}
+use Rattle.run_opening.specs.declared.reports.notices.Notice.TheVariants as notices
+use Rattle.run_opening.specs.declared.reports.reports.Streams.{Streams}
 use Rattle.run_opening.specs.Names.{Word, reply_name}
 
 -- ---- streams

@@ -2,7 +2,7 @@
 use afl_lexer::{Memory, Span};
 
 /// What is wrong with a statement that is well formed.
-#[derive(Clone, Copy, Debug)]
+#[derive(Clone, Copy)]
 pub enum TypeKind {
     UnknownType,
     RepeatedName,

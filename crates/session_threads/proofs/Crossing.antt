@@ -13,7 +13,7 @@ use Rattle.logical_plan.proofs.plan.Plan.TheLaws.TheKnot as knot
 use Rattle.plan_changes.specs.contracts.change.Change as change
 use Rattle.event_core.specs.contracts.entry.Entry as entry
 use Rattle.version_reaper.specs.contracts.page_set.PageSet as pages
-use Rattle.lean_core.specs.contracts.lean.state.LeanCore as lean
+use Rattle.store_versions.specs.contracts.lean.lean.state.LeanCore as lean
 use Rattle.store_ledger.specs.contracts.note.Note as note
 use Rattle.store_ledger.specs.contracts.ledger.Ledger as ledger
 use Rattle.snapshot_manager.specs.Store as store
@@ -21,9 +21,9 @@ use Rattle.snapshot_manager.specs.contracts.seat.Seat as seat
 use Rattle.snapshot_manager.specs.contracts.shared.Shared as shared
 use Rattle.afl_lexer.specs.contracts.splitter.Splitter as splitter
 use Rattle.result_print.specs.contracts.refusal.Refusal as refusal
-use Rattle.session_reports.specs.contracts.reports.Mark as mark
-use Rattle.session_reports.specs.contracts.reports.SessionReport as report
-use Rattle.session_reports.specs.contracts.reports.Streams as streams
+use Rattle.run_opening.specs.contracts.reports.reports.Mark as mark
+use Rattle.run_opening.specs.contracts.reports.reports.SessionReport as report
+use Rattle.run_opening.specs.contracts.reports.reports.Streams as streams
 use Rattle.session_threads.specs.contracts.desk.Desk as desk
 
 -- each by a search of its own, since a search for the whole spends its steps before it comes through

@@ -19,8 +19,8 @@ use Rattle.snapshot_manager.specs.Seats.{seen, session_of, start, AreIdleSeats, 
 use Rattle.snapshot_manager.specs.Told.{ledger_of}
 use Rattle.snapshot_manager.specs.declared.seat.Seat.{Seat}
 use Rattle.snapshot_manager.specs.declared.shared.Shared.{Shared}
-use Rattle.session_reports.specs.declared.reports.SessionReport.{SessionReport}
-use Rattle.session_reports.specs.declared.reports.Streams.{Streams}
+use Rattle.run_opening.specs.declared.reports.reports.SessionReport.{SessionReport}
+use Rattle.run_opening.specs.declared.reports.reports.Streams.{Streams}
 use Rattle.afl_session.specs.Style.{Style}
 use Rattle.session_threads.specs.Sessions.{AreOfSessions, AreSessionsOf, IsSessionOf}
 use Rattle.session_threads.specs.Inner.Desks.{AllWorked, AreDone, AreEmptied, AreReady, AreSeated, HasEnded, HasServed, HasWorked, IsDone, IsReady, IsReaper, IsSeated, IsWaiting}

@@ -5,7 +5,7 @@ ghost use Rattle.session_threads.specs.declared.desk.Desk.TheVariants.{Done};
 
 use afl_outside::{Disk, Gate, Sink, Source};
 use afl_session::{Options, SessionReport, serve};
-use session_reports::Streams;
+use run_opening::Streams;
 use snapshot_manager::{Seat, Shared};
 use std::alloc::Global;
 use std::mem::replace;

@@ -8,4 +8,4 @@ mod run;
 
 pub use afl_session::{Options, Style};
 pub use run::run_sessions;
-pub use session_reports::Streams;
+pub use run_opening::Streams;

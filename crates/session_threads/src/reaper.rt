@@ -12,6 +12,7 @@ use std::snapshot::Snapshot;
 use std::sync::Wait;
 use std::thread;
 use std::thread::{Promise, Threads};
+use store_ledger::let_go_seen;
 use turn_lock::Ring;
 
 /// Reaps once. Where no memory is found for that, the pages wait for a later reap, or for the next opening of the file.
@@ -48,11 +49,6 @@ impl<D: Disk> Drop for SeatBack<D> {
         let_go_seen(shared);
         let_go_seen(seat);
     }
-}
-
-/// Lets go what was seen. It may be anything, so that nothing of a store has to be let go for it.
-fn let_go_seen<T>(seen: Snapshot<T>) {
-    drop(seen);
 }
 
 impl<D: Disk> Promise<Seat<D>> for SeatBack<D> {

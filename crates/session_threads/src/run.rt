@@ -9,7 +9,7 @@ ghost use Rattle.afl_session.specs.Style.{Style};
 ghost use Rattle.session_threads.specs.Sessions.{AreOfSessions, AreSessionsOf};
 ghost use Rattle.session_threads.specs.Inner.Desks.{AreDone, AreEmptied, AreSeated, HasEnded, IsReaper};
 ghost use Rattle.session_threads.specs.Inner.Rooms.{HasRoom};
-ghost use Rattle.session_reports.specs.declared.reports.Streams.{Streams};
+ghost use Rattle.run_opening.specs.declared.reports.reports.Streams.{Streams};
 
 use crate::desk::Desk;
 use crate::reaper::{reap_once, work_beside};
@@ -17,7 +17,7 @@ use crate::room::{Room, opened};
 use afl_outside::{Disk, Gate, Sink, Source};
 use afl_session::{Options, SessionReport};
 use cell_values::{List, Memory};
-use session_reports::Streams;
+use run_opening::Streams;
 use snapshot_manager::{Seat, Shared, Store};
 use std::alloc::Global;
 use std::sync::Wait;

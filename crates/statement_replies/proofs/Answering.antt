@@ -12,8 +12,8 @@ use Rattle.plan_changes.specs.Databases.{Database, names_of, rows_of}
 use Rattle.plan_changes.specs.declared.change.Change.{Change}
 use Rattle.plan_changes.specs.Stored.{AreStored}
 use Rattle.check_exprs.specs.Laws.{leaves_fit}
-use Rattle.check_queries.specs.Arrays.{AreValid}
-use Rattle.check_queries.specs.Queries.{query_of}
+use Rattle.afl_types.specs.Arrays.{AreValid}
+use Rattle.afl_types.specs.Queries.{query_of}
 use Rattle.check_rules.specs.Checked.{Checked}
 use Rattle.check_rules.specs.Operators.{operator_named}
 use Rattle.check_rules.specs.declared.rules.operator.Operator.{Operator}

@@ -17,7 +17,7 @@ use Rattle.plan_changes.specs.Changes.{entry_named, has_array, is_named, last_of
 use Rattle.plan_changes.specs.Databases.{Database, names_of}
 use Rattle.plan_changes.specs.Stored.{AreStored}
 use Rattle.plan_changes.specs.Typed.{FitsInto, IsTypedFor, IsTypedOver, IsVersionOf}
-use Rattle.check_queries.proofs.Small.{entry_valid}
+use Rattle.afl_types.proofs.Small.{entry_valid}
 use Rattle.afl_types.proofs.Agreeing.{any_is_found, is_some}
 use Rattle.afl_types.proofs.StoredNames.{schemas_valid}
 use Rattle.chunk_exec.specs.Computed.{CanCompute}

@@ -5,8 +5,8 @@ use Rattle.std.proofs.lemmas.Bool.{and_parts}
 use Rattle.std.proofs.lemmas.Bool.Decides.{nat_tests}
 use Rattle.std.proofs.lemmas.List.{map-append}
 use Rattle.std.proofs.lemmas.List.Elements.{filter-append}
-use Rattle.lean_core.specs.Entry.{Entry}
-use Rattle.lean_core.proofs.Tests.{both_not, if_tests}
+use Rattle.store_versions.specs.Entry.{Entry}
+use Rattle.store_versions.proofs.Tests.{both_not, if_tests}
 use Rattle.store_ledger.specs.declared.note.Note.{Note}
 use Rattle.store_ledger.specs.Ledger.{Event, entered, noted, events_from}
 use Rattle.store_ledger.specs.Laws.{EventsGrowByEntries, EventsGrowByNotes}

@@ -3,18 +3,18 @@ use Rattle.std.proofs.Common.{◌≡◌, ◌∙◌, ℕ, suc, ◌+◌, ◌*◌, 
 use Rattle.std.specs.List.{filter, list_all, sum_by}
 use Rattle.std.proofs.lemmas.Bool.{and_from, and_parts, eq-eqb}
 use Rattle.std.proofs.lemmas.List.Sums.{sum_by-cons, sum_by_push}
-use Rattle.lean_core.specs.Change.{Change}
-use Rattle.lean_core.specs.Used.{Used}
-use Rattle.lean_core.specs.Entry.TheVariants.{Pin, Unpin, Commit, Reap}
-use Rattle.lean_core.specs.Core.{Core}
+use Rattle.store_versions.specs.Change.{Change}
+use Rattle.store_versions.specs.Used.{Used}
+use Rattle.store_versions.specs.Entry.TheVariants.{Pin, Unpin, Commit, Reap}
+use Rattle.store_versions.specs.Core.{Core}
 use Rattle.event_core.specs.Allowed.{IsBase, is_allowed, allows, is_pinned}
-use Rattle.lean_core.specs.History.{History, OpenPin, open_pins, pin_before}
-use Rattle.lean_core.specs.Legal.{has_committed}
-use Rattle.lean_core.specs.Replay.{core_after}
-use Rattle.lean_core.proofs.Steps.{core_step, core_start}
-use Rattle.lean_core.proofs.Tests.{both_not, eq_sym}
-use Rattle.lean_core.specs.Pins.{pins_of}
-use Rattle.lean_core.proofs.Pins.{open_pins_are_these}
+use Rattle.store_versions.specs.History.{History, OpenPin, open_pins, pin_before}
+use Rattle.store_versions.specs.Legal.{has_committed}
+use Rattle.store_versions.specs.Replay.{core_after}
+use Rattle.store_versions.proofs.Steps.{core_step, core_start}
+use Rattle.store_versions.proofs.Tests.{both_not, eq_sym}
+use Rattle.store_versions.specs.Pins.{pins_of}
+use Rattle.store_versions.proofs.Pins.{open_pins_are_these}
 use Rattle.store_ledger.specs.declared.note.Note.{Note}
 use Rattle.store_ledger.specs.Ledger.{causes, has_note, is_fault, is_tried, is_under, reaps, reserved_by}
 use Rattle.store_ledger.specs.Inner.Kept.{IsKept, entries_to_come, notes_to_come}

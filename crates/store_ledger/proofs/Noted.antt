@@ -5,13 +5,13 @@ use Rattle.std.proofs.lemmas.Bool.{eq-eqb}
 use Rattle.std.proofs.lemmas.Bool.Decides.{nat_tests}
 use Rattle.std.proofs.lemmas.List.{reverse-append, length-reverse}
 use Rattle.std.proofs.lemmas.List.Folds.{list_any-append}
-use Rattle.lean_core.specs.Change.{Change}
-use Rattle.lean_core.specs.Core.{Core}
+use Rattle.store_versions.specs.Change.{Change}
+use Rattle.store_versions.specs.Core.{Core}
 use Rattle.event_core.specs.Allowed.{is_pinned}
-use Rattle.lean_core.specs.History.{History, OpenPin, open_pins, pin_before, up_to}
-use Rattle.lean_core.proofs.Tests.{both_not, eq_sym}
-use Rattle.lean_core.specs.Pins.{PlaceTells}
-use Rattle.lean_core.proofs.Pins.{all_entries_are_the_history, places_tell_pins}
+use Rattle.store_versions.specs.History.{History, OpenPin, open_pins, pin_before, up_to}
+use Rattle.store_versions.proofs.Tests.{both_not, eq_sym}
+use Rattle.store_versions.specs.Pins.{PlaceTells}
+use Rattle.store_versions.proofs.Pins.{all_entries_are_the_history, places_tell_pins}
 use Rattle.store_ledger.specs.declared.note.Note.{Note}
 use Rattle.store_ledger.specs.declared.note.NoteKind.{NoteKind}
 use Rattle.store_ledger.specs.declared.note.NoteKind.TheVariants.{Fault}

@@ -5,9 +5,9 @@ use Rattle.std.proofs.lemmas.Bool.{and_from}
 use Rattle.std.proofs.lemmas.Bool.Decides.{nat_tests}
 use Rattle.std.proofs.lemmas.List.{reverse-append}
 use Rattle.std.proofs.lemmas.List.Folds.{list_any-append}
-use Rattle.lean_core.specs.Entry.{Entry}
+use Rattle.store_versions.specs.Entry.{Entry}
 use Rattle.event_core.specs.Allowed.{is_pinned}
-use Rattle.lean_core.specs.History.{History, pin_before, up_to}
+use Rattle.store_versions.specs.History.{History, pin_before, up_to}
 use Rattle.store_ledger.specs.declared.note.Note.{Note}
 use Rattle.store_ledger.specs.Ledger.{AreNoted, IsNote, has_note, is_kind}
 

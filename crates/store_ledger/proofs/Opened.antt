@@ -4,20 +4,20 @@ use Rattle.std.specs.List.{filter, list_any}
 use Rattle.std.proofs.lemmas.Bool.{and_parts}
 use Rattle.std.proofs.lemmas.Bool.Decides.{nat_tests}
 use Rattle.std.proofs.lemmas.List.{length-reverse}
-use Rattle.lean_core.specs.Change.{Change}
+use Rattle.store_versions.specs.Change.{Change}
 use Rattle.version_reaper.specs.PageSets.{pages_below}
-use Rattle.lean_core.specs.Used.{Used}
-use Rattle.lean_core.specs.Entry.{Entry}
-use Rattle.lean_core.specs.Entry.TheVariants.{Pin, Unpin, Commit, Reap}
-use Rattle.lean_core.specs.Core.{Core}
+use Rattle.store_versions.specs.Used.{Used}
+use Rattle.store_versions.specs.Entry.{Entry}
+use Rattle.store_versions.specs.Entry.TheVariants.{Pin, Unpin, Commit, Reap}
+use Rattle.store_versions.specs.Core.{Core}
 use Rattle.event_core.specs.Allowed.{allows, is_pinned}
-use Rattle.lean_core.specs.History.{History, pin_before}
-use Rattle.lean_core.specs.Legal.{has_committed}
-use Rattle.lean_core.specs.Pages.{is_live, is_awaiting}
-use Rattle.lean_core.specs.Ready.{ReadyFor}
-use Rattle.lean_core.specs.Replay.{core_at, core_after, is_core_live, is_core_awaiting}
-use Rattle.lean_core.proofs.Tests.{filter_agrees}
-use Rattle.lean_core.proofs.Cores.{core_tells_pages}
+use Rattle.store_versions.specs.History.{History, pin_before}
+use Rattle.store_versions.specs.Legal.{has_committed}
+use Rattle.store_versions.specs.Pages.{is_live, is_awaiting}
+use Rattle.store_versions.specs.Ready.{ReadyFor}
+use Rattle.store_versions.specs.Replay.{core_at, core_after, is_core_live, is_core_awaiting}
+use Rattle.store_versions.proofs.Tests.{filter_agrees}
+use Rattle.store_versions.proofs.Cores.{core_tells_pages}
 use Rattle.store_ledger.specs.declared.note.Note.{Note}
 use Rattle.store_ledger.specs.declared.pinned.Pinned.{Pinned}
 use Rattle.store_ledger.specs.Ledger.{LedgerState, IsOpenPin, MayReap, reserved_by, history, reserved, has_room, unused_pages, is_tried}

@@ -6,12 +6,12 @@ use Rattle.std.proofs.lemmas.Bool.Decides.{nat_tests}
 use Rattle.std.proofs.lemmas.List.{reverse-append, length-reverse}
 use Rattle.std.proofs.lemmas.List.Folds.{list_any-append}
 use Rattle.std.proofs.lemmas.List.Sums.{sum_by-cons, sum_by_push}
-use Rattle.lean_core.specs.Entry.{Entry}
-use Rattle.lean_core.specs.Entry.TheVariants.{Pin, Unpin}
-use Rattle.lean_core.specs.History.{History, OpenPin, open_pins, pin_before}
-use Rattle.lean_core.proofs.Tests.{both_not}
-use Rattle.lean_core.proofs.Pins.{open_pins_stay, open_pins_are_these}
-use Rattle.lean_core.specs.Pins.{pins_of}
+use Rattle.store_versions.specs.Entry.{Entry}
+use Rattle.store_versions.specs.Entry.TheVariants.{Pin, Unpin}
+use Rattle.store_versions.specs.History.{History, OpenPin, open_pins, pin_before}
+use Rattle.store_versions.proofs.Tests.{both_not}
+use Rattle.store_versions.proofs.Pins.{open_pins_stay, open_pins_are_these}
+use Rattle.store_versions.specs.Pins.{pins_of}
 use Rattle.store_ledger.specs.declared.note.Note.{Note}
 use Rattle.store_ledger.specs.declared.note.NoteKind.{NoteKind}
 use Rattle.store_ledger.specs.Ledger.{is_tried, is_under, has_note, has_under, reserved_by}

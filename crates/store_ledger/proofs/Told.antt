@@ -4,16 +4,16 @@ use Rattle.std.specs.List.{filter, list_any, list_all}
 use Rattle.std.proofs.lemmas.Bool.Decides.{nat_tests}
 use Rattle.std.proofs.lemmas.List.{reverse-append, length-reverse}
 use Rattle.std.proofs.lemmas.List.Folds.{list_all-append}
-use Rattle.lean_core.specs.Core.{Core}
-use Rattle.lean_core.specs.CorePin.{CorePin}
+use Rattle.store_versions.specs.Core.{Core}
+use Rattle.store_versions.specs.CorePin.{CorePin}
 use Rattle.event_core.specs.Allowed.{is_pinned}
-use Rattle.lean_core.specs.History.{History, OpenPin, open_pins, pin_before}
-use Rattle.lean_core.specs.Replay.{pin_at}
-use Rattle.lean_core.proofs.Tests.{any_map}
-use Rattle.lean_core.specs.Pins.{pins_of}
-use Rattle.lean_core.proofs.Pins.{open_pins_are_these}
+use Rattle.store_versions.specs.History.{History, OpenPin, open_pins, pin_before}
+use Rattle.store_versions.specs.Replay.{pin_at}
+use Rattle.store_versions.proofs.Tests.{any_map}
+use Rattle.store_versions.specs.Pins.{pins_of}
+use Rattle.store_versions.proofs.Pins.{open_pins_are_these}
 use Rattle.store_ledger.specs.declared.note.Note.{Note}
-use Rattle.lean_core.specs.Change.{Change}
+use Rattle.store_versions.specs.Change.{Change}
 use Rattle.store_ledger.specs.Ledger.{LedgerState, AreFew, IsLedger, MayReap, attempt, note_now, has_note, has_room, has_under, history, is_noted, reserved, with_notes, is_tried, is_fault}
 use Rattle.store_ledger.specs.Laws.{NotesAreWithin}
 use Rattle.store_ledger.specs.Inner.Kept.{IsKept}

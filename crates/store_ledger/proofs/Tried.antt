@@ -6,10 +6,10 @@ use Rattle.std.proofs.lemmas.Bool.Decides.{nat_tests}
 use Rattle.std.proofs.lemmas.List.{length-reverse}
 use Rattle.std.proofs.lemmas.List.Folds.{list_any-append}
 use Rattle.std.proofs.lemmas.List.Sums.{sum_by-cons, sum_by_push}
-use Rattle.lean_core.specs.History.{History, OpenPin, open_pins}
-use Rattle.lean_core.proofs.Tests.{both_not, eq_sym}
-use Rattle.lean_core.specs.Pins.{pins_of, PlaceTells}
-use Rattle.lean_core.proofs.Pins.{open_pins_are_these, places_tell_pins}
+use Rattle.store_versions.specs.History.{History, OpenPin, open_pins}
+use Rattle.store_versions.proofs.Tests.{both_not, eq_sym}
+use Rattle.store_versions.specs.Pins.{pins_of, PlaceTells}
+use Rattle.store_versions.proofs.Pins.{open_pins_are_these, places_tell_pins}
 use Rattle.store_ledger.specs.declared.note.Note.{Note}
 use Rattle.store_ledger.specs.Ledger.{attempt, is_tried, is_under, has_note, note_now, reserved_by}
 use Rattle.store_ledger.specs.Laws.{TriedGivesTwoBack}

@@ -2,16 +2,16 @@
 use Rattle.std.proofs.Common.{◌≡◌, ◌∙◌, ℕ, suc, ◌+◌, ◌-◌, ◌*◌, ◌≤◌, ◌<◌, not, List, [], ◌∷◌, ◌++◌, length, map, reverse, Some, IsTrue, true, false, refl, ap, sym, subst, arith}
 use Rattle.std.specs.List.{sum_by}
 use Rattle.std.proofs.lemmas.Bool.{and_parts}
-use Rattle.lean_core.specs.Change.{Change}
-use Rattle.lean_core.specs.Used.{Used}
-use Rattle.lean_core.specs.Entry.{Entry}
-use Rattle.lean_core.specs.Entry.TheVariants.{Pin, Unpin, Commit, Reap}
-use Rattle.lean_core.specs.Core.{Core}
+use Rattle.store_versions.specs.Change.{Change}
+use Rattle.store_versions.specs.Used.{Used}
+use Rattle.store_versions.specs.Entry.{Entry}
+use Rattle.store_versions.specs.Entry.TheVariants.{Pin, Unpin, Commit, Reap}
+use Rattle.store_versions.specs.Core.{Core}
 use Rattle.event_core.specs.Allowed.{IsBase, allows, is_pinned}
-use Rattle.lean_core.specs.History.{History, OpenPin, open_pins, pin_before}
-use Rattle.lean_core.specs.Legal.{has_committed}
-use Rattle.lean_core.specs.Replay.{pin_at}
-use Rattle.lean_core.specs.States.{core_place}
+use Rattle.store_versions.specs.History.{History, OpenPin, open_pins, pin_before}
+use Rattle.store_versions.specs.Legal.{has_committed}
+use Rattle.store_versions.specs.Replay.{pin_at}
+use Rattle.store_versions.specs.States.{core_place}
 use Rattle.store_ledger.specs.declared.note.Note.{Note}
 use Rattle.store_ledger.specs.declared.pinned.Pinned.{Pinned}
 use Rattle.store_ledger.specs.Ledger.{LedgerState, IsOpenPin, has_room, history, open_place, reserved_by}

@@ -4,16 +4,16 @@ use Rattle.std.specs.List.{filter, list_any}
 use Rattle.std.proofs.lemmas.Bool.{eq-eqb, or_from, or_left, or_right}
 use Rattle.std.proofs.lemmas.List.Elements.{filter-append}
 use Rattle.std.proofs.lemmas.List.Folds.{list_any-append}
-use Rattle.lean_core.specs.Change.{Change}
+use Rattle.store_versions.specs.Change.{Change}
 use Rattle.version_reaper.specs.PageSets.{holds, pages_below}
-use Rattle.lean_core.specs.Used.{Used}
-use Rattle.lean_core.specs.Entry.TheVariants.{Pin, Unpin, Commit, Reap}
-use Rattle.lean_core.specs.Core.{Core}
+use Rattle.store_versions.specs.Used.{Used}
+use Rattle.store_versions.specs.Entry.TheVariants.{Pin, Unpin, Commit, Reap}
+use Rattle.store_versions.specs.Core.{Core}
 use Rattle.event_core.specs.Allowed.{IsBase}
-use Rattle.lean_core.specs.Bases.{commits}
-use Rattle.lean_core.specs.History.{History, OpenPin, catalogue_at, open_pins, pages_at}
-use Rattle.lean_core.specs.Pages.{free_at, has_page, is_awaiting, is_live, pin_names}
-use Rattle.lean_core.proofs.Tests.{holds_filter}
+use Rattle.store_versions.specs.Bases.{commits}
+use Rattle.store_versions.specs.History.{History, OpenPin, catalogue_at, open_pins, pages_at}
+use Rattle.store_versions.specs.Pages.{free_at, has_page, is_awaiting, is_live, pin_names}
+use Rattle.store_versions.proofs.Tests.{holds_filter}
 use Rattle.store_ledger.specs.declared.note.Note.{Note}
 use Rattle.store_ledger.specs.declared.note.NoteKind.TheVariants.{Fault}
 use Rattle.store_ledger.specs.Ledger.{AreFew, LedgerState, MayReap, attempt, causes, history, is_tried, is_waiting, reaps, unpins}

@@ -1,11 +1,11 @@
 -- What holds of ledgers.
 use Rattle.std.specs.Prelude.{◌≡◌, ◌+◌, ℕ, List, [], ◌∷◌, ◌++◌, length, reverse, Bool, not, ◌&&◌, nat_eq, false, Some, IsTrue}
 use Rattle.std.specs.List.{list_all}
-use Rattle.lean_core.specs.Change.{Change}
-use Rattle.lean_core.specs.Entry.{Entry}
-use Rattle.lean_core.specs.Entry.TheVariants.{Pin, Unpin}
+use Rattle.store_versions.specs.Change.{Change}
+use Rattle.store_versions.specs.Entry.{Entry}
+use Rattle.store_versions.specs.Entry.TheVariants.{Pin, Unpin}
 use Rattle.event_core.specs.Allowed.{is_allowed}
-use Rattle.lean_core.specs.History.{History, leaves_pin, pin_before}
+use Rattle.store_versions.specs.History.{History, leaves_pin, pin_before}
 use Rattle.store_ledger.specs.declared.note.Note.{Note}
 use Rattle.store_ledger.specs.declared.note.NoteKind.{NoteKind}
 use Rattle.store_ledger.specs.declared.pinned.Pinned.{Pinned}

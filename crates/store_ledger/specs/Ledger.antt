@@ -2,15 +2,15 @@
 use Rattle.std.specs.Prelude.{◌≡◌, ◌≤◌, ◌<◌, ◌+◌, ℕ, Bool, true, false, not, ◌&&◌, if◌then◌else◌, nat_eq, nat_le}
 use Rattle.std.specs.Prelude.{nat_lt, List, [], ◌∷◌, ◌++◌, length, map, reverse, Option, None, Some, IfSome, IsTrue}
 use Rattle.std.specs.List.{filter, list_all, list_any, sum_by}
-use Rattle.lean_core.specs.Change.{Change}
-use Rattle.lean_core.specs.Entry.{Entry}
-use Rattle.lean_core.specs.Entry.TheVariants.{Pin, Unpin, Commit, Reap}
-use Rattle.lean_core.specs.Core.{Core}
+use Rattle.store_versions.specs.Change.{Change}
+use Rattle.store_versions.specs.Entry.{Entry}
+use Rattle.store_versions.specs.Entry.TheVariants.{Pin, Unpin, Commit, Reap}
+use Rattle.store_versions.specs.Core.{Core}
 use Rattle.version_reaper.specs.PageSets.{pages_below}
 use Rattle.event_core.specs.Allowed.{IsBase, is_allowed, is_pinned}
-use Rattle.lean_core.specs.Bases.{commits}
-use Rattle.lean_core.specs.Pages.{is_live, is_awaiting}
-use Rattle.lean_core.specs.History.{History, OpenPin, names_at, open_pins, pin_before, up_to}
+use Rattle.store_versions.specs.Bases.{commits}
+use Rattle.store_versions.specs.Pages.{is_live, is_awaiting}
+use Rattle.store_versions.specs.History.{History, OpenPin, names_at, open_pins, pin_before, up_to}
 use Rattle.store_ledger.specs.declared.note.Note.{Note}
 use Rattle.store_ledger.specs.declared.note.NoteKind.{NoteKind}
 use Rattle.store_ledger.specs.declared.note.NoteKind.TheVariants.{Fault, Tried}

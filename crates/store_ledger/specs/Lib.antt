@@ -1,5 +1,5 @@
-pub use Rattle.lean_core.specs.States
-pub use Rattle.lean_core.specs.declared.lean.pin.LeanPin
+pub use Rattle.store_versions.specs.States
+pub use Rattle.store_versions.specs.declared.lean.lean.pin.LeanPin
 pub mod Inner
 pub mod Laws
 pub mod Ledger

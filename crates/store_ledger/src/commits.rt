@@ -1,18 +1,18 @@
 //! Commits in two halves: the first takes all memory, the second none.
 ghost use Rattle.std.specs.Prelude.{◌≡◌, false, [], ◌∷◌, IfOk, IsTrue};
-ghost use Rattle.lean_core.specs.Allowed.{names_allow};
-ghost use Rattle.lean_core.specs.Entry.TheVariants.{Commit};
+ghost use Rattle.store_versions.specs.Allowed.{names_allow};
+ghost use Rattle.store_versions.specs.Entry.TheVariants.{Commit};
 ghost use Rattle.event_core.specs.Allowed.{allows};
-ghost use Rattle.lean_core.specs.History.{names_at};
-ghost use Rattle.lean_core.specs.Legal.{has_committed};
-ghost use Rattle.lean_core.specs.Ready.{IsReadyOver};
-ghost use Rattle.lean_core.specs.Replay.{core_at};
+ghost use Rattle.store_versions.specs.History.{names_at};
+ghost use Rattle.store_versions.specs.Legal.{has_committed};
+ghost use Rattle.store_versions.specs.Ready.{IsReadyOver};
+ghost use Rattle.store_versions.specs.Replay.{core_at};
 ghost use Rattle.store_ledger.specs.Ledger.{has_room, history, with_entries};
 
 use crate::Ledger;
 use cell_values::Memory;
-use lean_core::{Change, Entry, LeanReady, Used};
 use std::marker::Model;
+use store_versions::{Change, Entry, LeanReady, Used};
 
 /// A commit that was made ready, with its change and its pages. Contracts see the core, the change and the pages that it was made for.
 #[derive(Drop)]
@@ -24,7 +24,7 @@ pub struct ReadyCommit {
 
 impl Model for ReadyCommit {
     ghost use Rattle.std.specs.Prelude.{◌≡◌};
-    ghost use Rattle.lean_core.specs.Ready.{ReadyFor};
+    ghost use Rattle.store_versions.specs.Ready.{ReadyFor};
 
     ghost Value = { ReadyFor };
 

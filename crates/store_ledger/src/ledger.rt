@@ -1,18 +1,18 @@
 //! The ledger as one value.
 ghost use Rattle.std.specs.Prelude.{◌≡◌, [], length, map, IfOk};
 ghost use Rattle.event_core.specs.Allowed.{IsBase};
-ghost use Rattle.lean_core.specs.History.{names_at, catalogue_at, open_pins};
-ghost use Rattle.lean_core.specs.Pages.{free_at};
-ghost use Rattle.lean_core.specs.States.{place_of};
+ghost use Rattle.store_versions.specs.History.{names_at, catalogue_at, open_pins};
+ghost use Rattle.store_versions.specs.Pages.{free_at};
+ghost use Rattle.store_versions.specs.States.{place_of};
 ghost use Rattle.store_ledger.specs.Ledger.{history, has_room, open_place, unused_pages, IsLedger};
 
 use crate::Note;
 use cell_values::{List, Memory};
-use lean_core::{Core, Entry, LeanCore, LeanPin};
 use logical_plan::Names;
 use std::alloc::Global;
 use std::marker::Model;
 use std::snapshot::Snapshot;
+use store_versions::{Core, Entry, LeanCore, LeanPin};
 use version_reaper::PageSet;
 
 /// Entries and notes, with the core that they make of a base. There is always room for the unpin of each open pin, for its first

@@ -4,6 +4,7 @@
 mod commits;
 mod laws;
 mod ledger;
+mod letting;
 mod note;
 mod noting;
 mod pinned;
@@ -16,5 +17,6 @@ pub use laws::{
     tried_gives_two_back, unpins_give_back,
 };
 pub use ledger::Ledger;
+pub use letting::{let_go_ledger, let_go_seen};
 pub use note::{Note, NoteKind};
 pub use pinned::{PinFault, Pinned};

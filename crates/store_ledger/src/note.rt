@@ -3,8 +3,8 @@
 ghost use Rattle.std.specs.Prelude.{◌≡◌};
 ghost use Rattle.store_ledger.specs.Ledger.{is_fault, is_tried};
 
-use lean_core::Change;
 use std::snapshot::Snapshot;
+use store_versions::Change;
 
 /// What a note says of its session.
 #[derive(Drop)]

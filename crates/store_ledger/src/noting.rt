@@ -3,12 +3,12 @@ ghost use Rattle.std.specs.Prelude.{false, [], ◌∷◌, length, IfSome, IsTrue
 ghost use Rattle.std.specs.List.{list_any};
 ghost use Rattle.store_ledger.specs.declared.note.NoteKind.TheVariants.{Fault};
 ghost use Rattle.event_core.specs.Allowed.{is_pinned};
-ghost use Rattle.lean_core.specs.History.{pin_before};
+ghost use Rattle.store_versions.specs.History.{pin_before};
 ghost use Rattle.store_ledger.specs.Ledger.{MayReap, attempt, has_note, has_room, history, is_fault, is_noted, is_tried, note_now, with_fault, with_notes};
 
 use crate::{Ledger, Note, NoteKind};
-use lean_core::{Change, LeanPin};
 use std::snapshot::Snapshot;
+use store_versions::{Change, LeanPin};
 
 /// Whether a fault was noted under the pin of a session and a place.
 fn is_faulty(notes: &[Note], session: u32, place: u64) -> bool

@@ -13,7 +13,7 @@ pub struct Pinned {
 }
 
 /// Why a session can't pin.
-#[derive(Debug, Clone, Copy)]
+#[derive(Clone, Copy)]
 pub enum PinFault {
     /// The history has no room for a pin and for what it would reserve.
     HistoryFull {

@@ -1,16 +1,16 @@
 //! Pins and unpins.
 ghost use Rattle.std.specs.Prelude.{◌≡◌, ◌≤◌, ◌<◌, ◌+◌, ◌-◌, ◌^◌, Bool, false, not, [], ◌∷◌, ◌++◌, length, vec_capacity, IfOk, IfErr, OnOk, OnErr, IsTrue};
-ghost use Rattle.lean_core.specs.Entry.TheVariants.{Pin, Unpin};
+ghost use Rattle.store_versions.specs.Entry.TheVariants.{Pin, Unpin};
 ghost use Rattle.event_core.specs.Allowed.{is_pinned};
-ghost use Rattle.lean_core.specs.History.{names_at};
-ghost use Rattle.lean_core.specs.Replay.{core_after};
+ghost use Rattle.store_versions.specs.History.{names_at};
+ghost use Rattle.store_versions.specs.Replay.{core_after};
 ghost use Rattle.store_ledger.specs.Ledger.{IsOpenPin, IsRefused, has_room, history, is_noted, with_entries};
 ghost use Rattle.store_ledger.specs.declared.note.NoteKind.{NoteKind};
 
 use crate::noting::reserved_under;
 use crate::{Ledger, Note, PinFault, Pinned};
 use cell_values::Memory;
-use lean_core::{Entry, LeanCore};
+use store_versions::{Entry, LeanCore};
 
 /// Room for so many entries and notes more.
 fn make_room(entries: &mut Vec<Entry>, notes: &mut Vec<Note>, count: usize) -> Result<(), Memory>

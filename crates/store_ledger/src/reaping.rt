@@ -1,12 +1,12 @@
 //! Reaps.
 ghost use Rattle.std.specs.Prelude.{◌≡◌, ◌≤◌, ◌<◌, ◌+◌, ◌-◌, ◌^◌, [], ◌∷◌, ◌++◌, length, if◌then◌else◌, vec_capacity, IfOk, OnOk, OnErr, IsTrue};
-ghost use Rattle.lean_core.specs.Entry.TheVariants.{Reap};
-ghost use Rattle.lean_core.specs.Replay.{core_after};
+ghost use Rattle.store_versions.specs.Entry.TheVariants.{Reap};
+ghost use Rattle.store_versions.specs.Replay.{core_after};
 ghost use Rattle.store_ledger.specs.Ledger.{MayReap, has_room, reap_comes, with_entries};
 
 use crate::Ledger;
 use cell_values::Memory;
-use lean_core::{Entry, LeanCore};
+use store_versions::{Entry, LeanCore};
 
 /// A reap in the core and behind the entries, and room for so many entries more than stood.
 fn append_reap(core: &mut LeanCore, entries: &mut Vec<Entry>, count: usize) -> Result<(), Memory>

@@ -11,7 +11,7 @@ use Rattle.plan_changes.specs.Databases.{Database, Stored, Version, entry_of, is
 use Rattle.plan_changes.specs.Stored.{NamesRise, RiseBetween}
 use Rattle.plan_changes.proofs.DatabaseLaws.{apart}
 use Rattle.plan_changes.proofs.StoredLaws.{RiseAfter, after_next, names_in, tail_rises}
-use Rattle.lean_core.proofs.Agree.{name_refl}
+use Rattle.store_versions.proofs.Agree.{name_refl}
 
 pub of_map : {A B : Type 0} (P : B → Type 0) (f : A → B) (xs : List A) → AllByRecursion P (map f xs) → AllByRecursion (λ x. P (f x)) xs
 of_map P f [] all = tt

@@ -1,20 +1,20 @@
 -- The parts of a store that was just opened are those of a store.
 use Rattle.std.proofs.Common.{◌≡◌, ◌≤◌, ℕ, ◌+◌, false, ◌||◌, inl, [], List, None, IfSome, Ok, refl, sym, ◌∙◌, ap, subst, arith}
 use Rattle.afl_outside.specs.Disk.{Moment, Only}
-use Rattle.page_slots.specs.Opens.{OpensAs}
+use Rattle.page_chain.specs.Opens.{OpensAs}
 use Rattle.page_chain.specs.Inner.Runs.{OnlyReads}
-use Rattle.page_slots.specs.Standing.{IsAlone, IsSound, IsStillEntry, IsStillRoot}
-use Rattle.page_slots.specs.declared.slots.slots.Slots.{Slots}
-use Rattle.page_slots.specs.declared.slots.slots.RootSlot.{RootSlot}
-use Rattle.page_slots.specs.declared.slots.slots.RootSlot.TheVariants as roots
-use Rattle.page_slots.specs.declared.slots.slots.NextEntry.TheVariants as entries
-use Rattle.page_slots.specs.declared.slots.slots.Target.{Target}
-use Rattle.page_slots.specs.declared.slots.slots.Target.TheVariants as targets
+use Rattle.page_chain.specs.Standing.{IsAlone, IsSound, IsStillEntry, IsStillRoot}
+use Rattle.page_chain.specs.declared.slots.slots.slots.Slots.{Slots}
+use Rattle.page_chain.specs.declared.slots.slots.slots.RootSlot.{RootSlot}
+use Rattle.page_chain.specs.declared.slots.slots.slots.RootSlot.TheVariants as roots
+use Rattle.page_chain.specs.declared.slots.slots.slots.NextEntry.TheVariants as entries
+use Rattle.page_chain.specs.declared.slots.slots.slots.Target.{Target}
+use Rattle.page_chain.specs.declared.slots.slots.slots.Target.TheVariants as targets
 use Rattle.page_file.specs.FilesOpened.{OpenFile}
 use Rattle.page_file.specs.OpeningOpened.{IsRead}
 use Rattle.plan_changes.specs.Databases.{Database}
 use Rattle.version_catalog.specs.Catalogs.{names_in}
-use Rattle.commit_writes.specs.Moments.{IsKnown}
+use Rattle.page_file.specs.Moments.{IsKnown}
 use Rattle.file_meaning.specs.Opening.{found_in, opened}
 use Rattle.file_meaning.specs.Standing.{HoldsDatabase, HoldsFound, Stands}
 use Rattle.file_meaning.specs.declared.meaning.found.Found.{Found}

@@ -12,7 +12,7 @@ use Rattle.version_catalog.specs.declared.rules.catalog.CatalogArray.{CatalogArr
 use Rattle.version_catalog.specs.Catalogs.{HasDirectories}
 use Rattle.event_core.specs.declared.state.VersionPages.{VersionPages}
 use Rattle.event_core.specs.History.{is_pages_of}
-use Rattle.lean_core.proofs.Agree.{name_refl}
+use Rattle.store_versions.proofs.Agree.{name_refl}
 use Rattle.file_meaning.specs.Opening.{all_of, version_pages}
 use Rattle.file_meaning.specs.declared.meaning.found.Found.{Found}
 use Rattle.file_reading.specs.Reading.{AreDirectories, IsFound}

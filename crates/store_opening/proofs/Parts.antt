@@ -3,13 +3,13 @@ use Rattle.std.proofs.Common.{◌≡◌, ℕ, [], List, Option, None, IfSome, Ok
 use Rattle.std.specs.Prelude.{IfOk, IsErrOf, IsTrue, MatchResult, Result}
 use Rattle.afl_outside.specs.Counts.{Rose}
 use Rattle.afl_outside.specs.Disk.{DiskState, Moment, Only}
-use Rattle.page_slots.specs.Opens.{OpensAs}
+use Rattle.page_chain.specs.Opens.{OpensAs}
 use Rattle.page_chain.specs.declared.fault.OpenCause.{OpenCause}
 use Rattle.page_chain.specs.declared.fault.OpenCause.TheVariants.{Disk, NotDatabase, Memory}
 use Rattle.page_chain.specs.Inner.Runs.{OnlyReads}
-use Rattle.page_slots.specs.Puts.{OnlySyncs}
-use Rattle.page_slots.specs.Standing.{IsSound}
-use Rattle.page_slots.specs.declared.slots.slots.Slots.{Slots}
+use Rattle.page_chain.specs.Puts.{OnlySyncs}
+use Rattle.page_chain.specs.Standing.{IsSound}
+use Rattle.page_chain.specs.declared.slots.slots.slots.Slots.{Slots}
 use Rattle.page_file.specs.FilesOpened.{OpenFile}
 use Rattle.file_meaning.specs.Opening.{found_in}
 use Rattle.file_reading.specs.Reading.{slots_of}

@@ -2,12 +2,12 @@
 use Rattle.std.proofs.Common.{◌≡◌, ◌≤◌, ℕ, List, Option, None, Some, IfSome, IsTrue, Result, Ok, Err, sym, ◌∙◌, subst, arith}
 use Rattle.afl_outside.specs.Counts.{Rose}
 use Rattle.afl_outside.specs.Disk.{DiskState, Moment, Only}
-use Rattle.page_slots.specs.Opens.{OpensAs}
+use Rattle.page_chain.specs.Opens.{OpensAs}
 use Rattle.page_chain.specs.declared.fault.OpenCause.{OpenCause}
 use Rattle.page_chain.specs.declared.fault.OpenCause.TheVariants.{Disk, NotDatabase, Memory}
-use Rattle.page_slots.specs.Puts.{OnlySyncs}
-use Rattle.page_slots.specs.Standing.{IsSound}
-use Rattle.page_slots.specs.declared.slots.slots.Slots.{Slots}
+use Rattle.page_chain.specs.Puts.{OnlySyncs}
+use Rattle.page_chain.specs.Standing.{IsSound}
+use Rattle.page_chain.specs.declared.slots.slots.slots.Slots.{Slots}
 use Rattle.page_file.specs.OpeningOpened.{AreFresh, HasCause as HasOpenCause, IsOpened}
 use Rattle.file_meaning.specs.Slots.{slots_in}
 use Rattle.file_meaning.specs.Opening.{found_in, opened}

@@ -2,11 +2,11 @@
 use Rattle.std.specs.Prelude.{◌≡◌, ℕ, List, [], map, None, IfSome, IsTrue}
 use Rattle.afl_outside.specs.Counts.{Rose}
 use Rattle.afl_outside.specs.Disk.{DiskState, Moment, Only}
-use Rattle.page_slots.specs.Opens.{OpensAs}
+use Rattle.page_chain.specs.Opens.{OpensAs}
 use Rattle.page_chain.specs.Inner.Runs.{OnlyReads}
 use Rattle.page_chain.specs.declared.fault.OpenCause.{OpenCause}
 use Rattle.page_chain.specs.declared.fault.OpenCause.TheVariants.{Disk, NotDatabase, Memory}
-use Rattle.page_slots.specs.Puts.{OnlySyncs}
+use Rattle.page_chain.specs.Puts.{OnlySyncs}
 use Rattle.version_catalog.specs.Catalogs.{names_in}
 use Rattle.file_meaning.specs.Opening.{IsWrongAt, Opens}
 use Rattle.file_meaning.specs.declared.meaning.found.Found.{Found}

@@ -5,7 +5,7 @@ use Rattle.afl_outside.specs.declared.source.Failed.{Failed}
 use Rattle.afl_outside.specs.Counts.{Rose}
 use Rattle.afl_outside.specs.Disk.{DiskGoesOn, DiskState, Moment}
 use Rattle.page_file.specs.FilesOpened.{OpenFile}
-use Rattle.commit_writes.specs.declared.stopped.Stopped.{Stopped}
+use Rattle.page_file.specs.declared.commits.stopped.Stopped.{Stopped}
 use Rattle.prepared_commits.specs.declared.commits.prepared.Prepared.{Prepared}
 use Rattle.store_sealing.specs.Inner.Ends.{EndsSo, Held, held_sealed, held_stopped}
 use Rattle.store_sealing.specs.Inner.Writing.{acked_after}

@@ -4,12 +4,12 @@ use Rattle.std.specs.List.{AllByRecursion, AllZip, flat_map, list_any}
 use Rattle.std.proofs.lemmas.Bool.{eqb-true, or_parts}
 use Rattle.cell_values.specs.declared.datum.Row.{Row}
 use Rattle.cell_values.specs.declared.schema.Schema.{Schema}
-use Rattle.page_slots.specs.Places.{IsNone, KeepsPages}
+use Rattle.page_chain.specs.Places.{IsNone, KeepsPages}
 use Rattle.page_chain.specs.Pages.{page_size, first_past}
-use Rattle.page_slots.specs.Standing.{target_page}
-use Rattle.page_slots.specs.declared.slots.slots.Slots.{Slots}
-use Rattle.page_slots.specs.declared.slots.slots.Target.{Target}
-use Rattle.page_slots.specs.declared.slots.slots.Target.TheVariants as targets
+use Rattle.page_chain.specs.Standing.{target_page}
+use Rattle.page_chain.specs.declared.slots.slots.slots.Slots.{Slots}
+use Rattle.page_chain.specs.declared.slots.slots.slots.Target.{Target}
+use Rattle.page_chain.specs.declared.slots.slots.slots.Target.TheVariants as targets
 use Rattle.chunk_map.specs.declared.directory.DirEntry.{DirEntry}
 use Rattle.chunk_map.specs.declared.directory.Directory.{Directory}
 use Rattle.logical_plan.specs.declared.names.NameEntry.{NameEntry}
@@ -29,9 +29,9 @@ use Rattle.event_core.specs.Bases.{Base}
 use Rattle.event_core.specs.Cells.{at}
 use Rattle.event_core.specs.History.{History, OpenPin, catalogue_at, open_pins, pages_at}
 use Rattle.event_core.specs.Pages.{has_page, is_live, pin_names}
-use Rattle.lean_core.proofs.Apart.{catalogues_stay_apart}
-use Rattle.lean_core.proofs.Free.{Dead, dead}
-use Rattle.lean_core.proofs.Legal.{ordered_is_allowed}
+use Rattle.store_versions.proofs.Apart.{catalogues_stay_apart}
+use Rattle.store_versions.proofs.Free.{Dead, dead}
+use Rattle.store_versions.proofs.Legal.{ordered_is_allowed}
 use Rattle.file_meaning.specs.NextLaws.{WritesLeaveStanding}
 use Rattle.file_meaning.specs.Premises.{StandsBy}
 use Rattle.file_meaning.proofs.Free.{names_positive, none_cons, weaker}

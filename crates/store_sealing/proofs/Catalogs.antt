@@ -11,7 +11,7 @@ use Rattle.version_catalog.specs.declared.rules.catalog.BlobAt.{BlobAt}
 use Rattle.version_catalog.specs.declared.rules.catalog.Catalog.{Catalog}
 use Rattle.catalog_changes.specs.Changed.{after_change, has_its_directory}
 use Rattle.file_meaning.specs.Opening.{version_pages}
-use Rattle.commit_writes.specs.Commits.{pages_of}
+use Rattle.page_file.specs.Commits.{pages_of}
 use Rattle.store_state.specs.Laid.{Laid}
 use Rattle.store_state.specs.NewVersion.{NewVersion}
 use Rattle.store_state.specs.Written.{Written}

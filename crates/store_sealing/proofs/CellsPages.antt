@@ -13,9 +13,9 @@ use Rattle.event_core.specs.declared.state.Core.{Core}
 use Rattle.event_core.specs.Allowed.{IsBase, is_allowed}
 use Rattle.event_core.specs.History.{History, catalogue_at, open_pins, pages_at}
 use Rattle.event_core.specs.Pages.{free_at, has_page, is_live, pin_names}
-use Rattle.lean_core.proofs.Free.{free_pages_are_within, no_free_page_is_live}
+use Rattle.store_versions.proofs.Free.{free_pages_are_within, no_free_page_is_live}
 use Rattle.file_meaning.proofs.Free.{weaker}
-use Rattle.commit_writes.specs.Commits.{commit_pages}
+use Rattle.page_file.specs.Commits.{commit_pages}
 use Rattle.store_state.specs.Laid.{Laid}
 use Rattle.store_state.specs.Changes.{AreValid, ComesWith}
 use Rattle.store_state.specs.Commits.{base_laid, base_needs, record_laid, record_needs}

@@ -4,7 +4,7 @@ use Rattle.std.specs.List.{AllByRecursion}
 use Rattle.std.proofs.lemmas.Bool.{eq-eqb, not_from_false}
 use Rattle.std.proofs.lemmas.List.{length-reverse}
 use Rattle.afl_outside.specs.Disk.{Moment}
-use Rattle.page_slots.specs.declared.slots.slots.Slots.{Slots}
+use Rattle.page_chain.specs.declared.slots.slots.slots.Slots.{Slots}
 use Rattle.logical_plan.specs.declared.names.Names.{Names}
 use Rattle.plan_changes.specs.Allowed.{names_allow}
 use Rattle.plan_changes.specs.Databases.{Database}
@@ -17,7 +17,7 @@ use Rattle.event_core.specs.History.{History, catalogue_at}
 use Rattle.event_core.specs.Pages.{free_at}
 use Rattle.file_meaning.proofs.Parts.{rest_all}
 use Rattle.version_reaper.specs.PageSets.{holds}
-use Rattle.commit_writes.specs.Moments.{IsKnown, IsOpened}
+use Rattle.page_file.specs.Moments.{IsKnown, IsOpened}
 use Rattle.store_state.specs.Laid.{Laid}
 use Rattle.store_state.specs.LaidPremises.{made_of}
 use Rattle.store_state.proofs.Used.{bases_have, records_have}

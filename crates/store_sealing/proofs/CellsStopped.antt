@@ -1,13 +1,13 @@
 -- What a store holds where a commit stopped.
 use Rattle.std.proofs.Common.{◌≡◌, ℕ, ◌+◌, List, Option, None, Some, IfSome, refl, sym, subst}
 use Rattle.afl_outside.specs.Disk.{Moment}
-use Rattle.page_slots.specs.declared.slots.slots.Slots.{Slots}
+use Rattle.page_chain.specs.declared.slots.slots.slots.Slots.{Slots}
 use Rattle.plan_changes.specs.declared.change.Change.{Change}
 use Rattle.plan_changes.specs.Databases.{Database}
-use Rattle.commit_writes.specs.declared.placed.Placed.{Placed}
-use Rattle.commit_writes.specs.declared.stopped.Stopped.{Stopped}
-use Rattle.commit_writes.specs.declared.stopped.Stopped.TheVariants as stages
-use Rattle.commit_writes.specs.Moments.{IsKnown}
+use Rattle.page_file.specs.declared.commits.placed.Placed.{Placed}
+use Rattle.page_file.specs.declared.commits.stopped.Stopped.{Stopped}
+use Rattle.page_file.specs.declared.commits.stopped.Stopped.TheVariants as stages
+use Rattle.page_file.specs.Moments.{IsKnown}
 use Rattle.event_core.specs.declared.state.Core.{Core}
 use Rattle.event_core.specs.Cells.{at}
 use Rattle.event_core.specs.History.{History}

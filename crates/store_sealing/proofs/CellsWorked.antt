@@ -1,11 +1,11 @@
 -- The removal that is prepared for the worked store, written as far as that its slot wasn't closed for sure.
 use Rattle.std.proofs.Common.{◌≡◌, inl, ℕ, List, [], ◌∷◌, refl, arith}
 use Rattle.page_chain.proofs.Kept.{keeps_self}
-use Rattle.page_slots.specs.Standing.{Holds, IsSound}
-use Rattle.page_slots.specs.Steps.{doubted}
-use Rattle.page_slots.specs.declared.slots.slots.Slots.{Slots}
-use Rattle.page_slots.proofs.Opening.{may_open}
-use Rattle.commit_writes.specs.Moments.{IsKnown, IsUntouched}
+use Rattle.page_chain.specs.Standing.{Holds, IsSound}
+use Rattle.page_chain.specs.Steps.{doubted}
+use Rattle.page_chain.specs.declared.slots.slots.slots.Slots.{Slots}
+use Rattle.page_chain.proofs.Opening.{may_open}
+use Rattle.page_file.specs.Moments.{IsKnown, IsUntouched}
 use Rattle.event_core.specs.declared.entry.Entry.TheVariants.{Pin}
 use Rattle.file_meaning.proofs.WorkedFiles.{file_stands}
 use Rattle.file_meaning.specs.Inner.FileExample.{database, file}

@@ -22,7 +22,7 @@ use Rattle.event_core.specs.Cells.{at}
 use Rattle.event_core.specs.History.{History, catalogue_at, names_at, pages_at}
 use Rattle.event_core.specs.Legal.{BeginsAt, Cost, IsLegal}
 use Rattle.event_core.specs.Pages.{free_at, is_live}
-use Rattle.lean_core.proofs.Cells.{names_are_of_the_database}
+use Rattle.store_versions.proofs.Cells.{names_are_of_the_database}
 use Rattle.file_meaning.specs.Opening.{found_in, pages_of, sequence_of}
 use Rattle.file_meaning.specs.Standing.{HoldsDatabase}
 use Rattle.file_meaning.specs.Premises.{StandsBy, row_of}

@@ -7,8 +7,8 @@ use Rattle.event_core.specs.declared.state.Core.{Core}
 use Rattle.event_core.specs.Allowed.{IsBase, is_allowed}
 use Rattle.event_core.specs.History.{History}
 use Rattle.event_core.specs.Pages.{is_awaiting, is_live, free_at}
-use Rattle.lean_core.proofs.Conserved.{pages_are_conserved}
-use Rattle.lean_core.proofs.Legal.{ordered_is_allowed}
+use Rattle.store_versions.proofs.Conserved.{pages_are_conserved}
+use Rattle.store_versions.proofs.Legal.{ordered_is_allowed}
 use Rattle.store_ledger.specs.Ledger.{LedgerState, history, unused_pages}
 use Rattle.prepared_commits.specs.At.{IsAt}
 use Rattle.prepared_commits.specs.Standings.{Standing}

@@ -1,17 +1,17 @@
 -- The images of a store while a commit is written, and after it.
 use Rattle.std.proofs.Common.{◌≡◌, ◌⊎◌, inl, inr, ⊎_elim, ℕ, List, [], ◌∷◌, Some, IfSome, sym, subst}
 use Rattle.std.specs.Prelude.{Ok}
-use Rattle.page_slots.specs.Places.{other, KeepsPages}
-use Rattle.page_slots.specs.declared.layout.sides.Side.{Side}
-use Rattle.page_slots.specs.Standing.{IsAlone, IsStillEntry, IsStillRoot, target_page}
-use Rattle.page_slots.specs.Steps.{doubted, emptied_entry, emptied_root}
-use Rattle.page_slots.specs.declared.slots.slots.Slots.{Slots}
-use Rattle.page_slots.specs.declared.slots.slots.RootSlot.{RootSlot}
-use Rattle.page_slots.specs.declared.slots.slots.RootSlot.TheVariants as roots
-use Rattle.page_slots.specs.declared.slots.slots.NextEntry.{NextEntry}
-use Rattle.page_slots.specs.declared.slots.slots.NextEntry.TheVariants as entries
-use Rattle.page_slots.specs.declared.slots.slots.Target.{Target}
-use Rattle.page_slots.specs.declared.slots.slots.Target.TheVariants as targets
+use Rattle.page_chain.specs.Places.{other, KeepsPages}
+use Rattle.page_chain.specs.declared.slots.layout.sides.Side.{Side}
+use Rattle.page_chain.specs.Standing.{IsAlone, IsStillEntry, IsStillRoot, target_page}
+use Rattle.page_chain.specs.Steps.{doubted, emptied_entry, emptied_root}
+use Rattle.page_chain.specs.declared.slots.slots.slots.Slots.{Slots}
+use Rattle.page_chain.specs.declared.slots.slots.slots.RootSlot.{RootSlot}
+use Rattle.page_chain.specs.declared.slots.slots.slots.RootSlot.TheVariants as roots
+use Rattle.page_chain.specs.declared.slots.slots.slots.NextEntry.{NextEntry}
+use Rattle.page_chain.specs.declared.slots.slots.slots.NextEntry.TheVariants as entries
+use Rattle.page_chain.specs.declared.slots.slots.slots.Target.{Target}
+use Rattle.page_chain.specs.declared.slots.slots.slots.Target.TheVariants as targets
 use Rattle.plan_changes.specs.Databases.{Database, after}
 use Rattle.file_meaning.specs.Opening.{found_in, pages_of}
 use Rattle.file_meaning.specs.Slots.{Slots as FoundSlots}

@@ -14,8 +14,8 @@ use Rattle.catalog_changes.proofs.Spelled.{changes_keep_catalogs}
 use Rattle.event_core.specs.declared.entry.Used.{Used}
 use Rattle.event_core.specs.Bases.{commits}
 use Rattle.event_core.specs.History.{History, catalogue_at, names_at}
-use Rattle.lean_core.proofs.Legal.{ordered_is_allowed}
-use Rattle.commit_writes.specs.declared.placed.Placed.{Placed}
+use Rattle.store_versions.proofs.Legal.{ordered_is_allowed}
+use Rattle.page_file.specs.declared.commits.placed.Placed.{Placed}
 use Rattle.store_state.specs.RowsLaws.{OrdersFollow}
 use Rattle.store_state.specs.Laid.{Laid}
 use Rattle.store_ledger.specs.Ledger.{history}

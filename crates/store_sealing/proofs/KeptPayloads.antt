@@ -2,10 +2,10 @@
 use Rattle.std.proofs.Common.{◌≡◌, ◌∙◌, ◌⊎◌, inl, inr, ⊎_elim, ℕ, Bool, true, false, List, [], ◌∷◌, IsTrue, refl, ap}
 use Rattle.std.specs.List.{AllByRecursion, AllZip, flat_map, list_any}
 use Rattle.cell_values.specs.declared.schema.Schema.{Schema}
-use Rattle.page_slots.specs.Places.{IsNone, KeepsPages}
+use Rattle.page_chain.specs.Places.{IsNone, KeepsPages}
 use Rattle.page_chain.specs.Pages.{page_size, blob}
-use Rattle.page_slots.specs.Standing.{target_page}
-use Rattle.page_slots.specs.declared.slots.slots.Slots.{Slots}
+use Rattle.page_chain.specs.Standing.{target_page}
+use Rattle.page_chain.specs.declared.slots.slots.slots.Slots.{Slots}
 use Rattle.chunk_map.specs.declared.directory.DirEntry.{DirEntry}
 use Rattle.logical_plan.specs.declared.names.NameEntry.{NameEntry}
 use Rattle.logical_plan.specs.declared.names.Names.{Names}
@@ -19,7 +19,7 @@ use Rattle.event_core.specs.declared.state.VersionPages.{VersionPages}
 use Rattle.event_core.specs.Apart.{AreApart}
 use Rattle.event_core.specs.History.{History, OpenPin, catalogue_at, names_at, open_pins, pages_at}
 use Rattle.event_core.specs.Pages.{has_page, is_live, pin_names}
-use Rattle.lean_core.proofs.Free.{Dead, dead}
+use Rattle.store_versions.proofs.Free.{Dead, dead}
 use Rattle.file_meaning.proofs.Free.{weaker}
 use Rattle.store_versions.specs.declared.row.VersionRow.{VersionRow}
 use Rattle.store_versions.specs.Versions.{Directories, MadeVersion, versions_at}

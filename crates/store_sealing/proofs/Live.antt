@@ -4,7 +4,7 @@ use Rattle.std.specs.List.{AllByRecursion, filter, list_any}
 use Rattle.std.proofs.lemmas.Bool.{eq-eqb}
 use Rattle.std.proofs.lemmas.List.Folds.{list_any-append}
 use Rattle.array_rows.specs.Boxes.{by_pairs}
-use Rattle.page_slots.specs.Places.{IsNone}
+use Rattle.page_chain.specs.Places.{IsNone}
 use Rattle.chunk_map.specs.declared.directory.Directory.{Directory}
 use Rattle.version_catalog.specs.declared.rules.catalog.CatalogArray.{CatalogArray}
 use Rattle.version_catalog.specs.declared.rules.catalog.Catalog.{Catalog}

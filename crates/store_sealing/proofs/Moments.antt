@@ -1,12 +1,12 @@
 -- Which databases an image of any moment of a commit stands for.
 use Rattle.std.proofs.Common.{inl, inr, ⊎_elim, ◌≤◌, ℕ, ◌+◌, List, [], ◌∷◌, length, None, Some, refl, arith}
 use Rattle.afl_outside.specs.Disk.{LeavesOnly, Moment}
-use Rattle.page_slots.specs.Places.{other}
-use Rattle.page_slots.specs.declared.slots.slots.Slots.{Slots}
+use Rattle.page_chain.specs.Places.{other}
+use Rattle.page_chain.specs.declared.slots.slots.slots.Slots.{Slots}
 use Rattle.plan_changes.specs.declared.change.Change.{Change}
 use Rattle.plan_changes.specs.Databases.{Database, after}
-use Rattle.commit_writes.specs.Commits.{base_pages, commit_pages, record_of, root_of}
-use Rattle.commit_writes.specs.Moments.{HasRecord, IsOpened, MayBe, MayHaveBase}
+use Rattle.page_file.specs.Commits.{base_pages, commit_pages, record_of, root_of}
+use Rattle.page_file.specs.Moments.{HasRecord, IsOpened, MayBe, MayHaveBase}
 use Rattle.event_core.specs.Cells.{at}
 use Rattle.event_core.specs.History.{History}
 use Rattle.file_meaning.specs.Opening.{sequence_of}

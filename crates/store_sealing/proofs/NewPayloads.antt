@@ -22,7 +22,7 @@ use Rattle.version_catalog.specs.declared.rules.catalog.Catalog.{Catalog}
 use Rattle.file_meaning.specs.Opening.{are_pages}
 use Rattle.file_meaning.proofs.Parts.{front_all}
 use Rattle.file_meaning.proofs.Payloads.{spelled_is_read}
-use Rattle.commit_writes.specs.Commits.{pages_of, HoldsBlobs}
+use Rattle.page_file.specs.Commits.{pages_of, HoldsBlobs}
 use Rattle.store_state.specs.Laid.{Laid}
 use Rattle.store_state.specs.NewVersion.{NewVersion}
 use Rattle.store_state.specs.Written.{Written}

@@ -12,9 +12,9 @@ use Rattle.plan_changes.specs.declared.change.Change.{Change}
 use Rattle.event_core.specs.Allowed.{is_allowed, is_pinned}
 use Rattle.event_core.specs.History.{History, OpenPin, open_pins, pin_before}
 use Rattle.event_core.specs.Legal.{has_committed}
-use Rattle.lean_core.specs.Pins.{PlaceTells, pins_of}
-use Rattle.lean_core.proofs.Legal.{ordered_is_allowed}
-use Rattle.lean_core.proofs.Pins.{open_pins_are_these, places_tell_pins}
+use Rattle.store_versions.specs.Pins.{PlaceTells, pins_of}
+use Rattle.store_versions.proofs.Legal.{ordered_is_allowed}
+use Rattle.store_versions.proofs.Pins.{open_pins_are_these, places_tell_pins}
 use Rattle.store_ledger.specs.declared.note.Note.{Note}
 use Rattle.store_ledger.specs.Ledger.{LedgerState, has_note, has_under, history, attempt, is_fault, is_noted, is_tried, is_under, note_now, with_notes}
 use Rattle.store_ledger.proofs.Keeping.{begun_of}

@@ -2,15 +2,15 @@
 use Rattle.std.proofs.Common.{◌≡◌, ◌⊎◌, inl, inr, ⊎_elim, ℕ, ◌+◌, List, [], ◌∷◌, ◌++◌, length, Option, None, Some, IfSome, refl, subst}
 use Rattle.std.specs.Option.{is_some}
 use Rattle.array_geom.specs.declared.chunk.Changed.{Changed}
-use Rattle.page_slots.specs.Places.{other, KeepsPages}
-use Rattle.page_slots.specs.Opens.{OpensAs}
+use Rattle.page_chain.specs.Places.{other, KeepsPages}
+use Rattle.page_chain.specs.Opens.{OpensAs}
 use Rattle.page_chain.specs.Inner.Runs.{Over as OverPages}
-use Rattle.page_slots.specs.Standing.{MayOpen, OpensAsRoot}
-use Rattle.page_slots.specs.Steps.{doubted}
-use Rattle.page_slots.specs.declared.slots.slots.Slots.{Slots}
-use Rattle.page_slots.specs.declared.slots.slots.RootSlot.TheVariants as roots
-use Rattle.page_slots.specs.declared.slots.slots.Target.{Target}
-use Rattle.page_slots.specs.declared.slots.slots.Target.TheVariants as targets
+use Rattle.page_chain.specs.Standing.{MayOpen, OpensAsRoot}
+use Rattle.page_chain.specs.Steps.{doubted}
+use Rattle.page_chain.specs.declared.slots.slots.slots.Slots.{Slots}
+use Rattle.page_chain.specs.declared.slots.slots.slots.RootSlot.TheVariants as roots
+use Rattle.page_chain.specs.declared.slots.slots.slots.Target.{Target}
+use Rattle.page_chain.specs.declared.slots.slots.slots.Target.TheVariants as targets
 use Rattle.chunk_map.specs.declared.directory.Directory.{Directory}
 use Rattle.plan_changes.specs.declared.change.Change.{Change}
 use Rattle.plan_changes.specs.Databases.{Database, after}
@@ -20,10 +20,10 @@ use Rattle.file_meaning.specs.Standing.{Stands}
 use Rattle.file_meaning.specs.declared.meaning.found.Found.{Found}
 use Rattle.file_meaning.specs.Next.{with_base, with_record}
 use Rattle.file_meaning.specs.Premises.{StandsBy, slots_of, slots_with}
-use Rattle.commit_writes.specs.declared.stopped.Stopped.{Stopped}
-use Rattle.commit_writes.specs.declared.stopped.Stopped.TheVariants as stages
-use Rattle.commit_writes.specs.Commits.{HoldsAll, record_of, root_of}
-use Rattle.commit_writes.specs.Moments.{HasBase, HasRecord, IsOpened, IsUnopened, IsUntouched, MayBe}
+use Rattle.page_file.specs.declared.commits.stopped.Stopped.{Stopped}
+use Rattle.page_file.specs.declared.commits.stopped.Stopped.TheVariants as stages
+use Rattle.page_file.specs.Commits.{HoldsAll, record_of, root_of}
+use Rattle.page_file.specs.Moments.{HasBase, HasRecord, IsOpened, IsUnopened, IsUntouched, MayBe}
 use Rattle.store_state.specs.Laid.{Laid}
 use Rattle.event_core.specs.declared.entry.Entry.TheVariants.{Commit}
 use Rattle.event_core.specs.declared.entry.Used.{Used}

@@ -3,8 +3,8 @@ use Rattle.std.proofs.Common.{◌≡◌, ◌∙◌, ℕ, ◌<◌, List, [], ◌�
 use Rattle.std.specs.List.{AllByRecursion}
 use Rattle.afl_outside.specs.Disk.{Moment}
 use Rattle.array_geom.specs.declared.chunk.Changed.{Changed}
-use Rattle.page_slots.specs.Standing.{target_page}
-use Rattle.page_slots.specs.declared.slots.slots.Target.{Target}
+use Rattle.page_chain.specs.Standing.{target_page}
+use Rattle.page_chain.specs.declared.slots.slots.slots.Target.{Target}
 use Rattle.logical_plan.specs.declared.names.NameEntry.{NameEntry}
 use Rattle.logical_plan.specs.declared.names.Names.{Names}
 use Rattle.plan_changes.specs.declared.change.Change.{Change}
@@ -15,7 +15,7 @@ use Rattle.version_reaper.specs.PageSets.{holds}
 use Rattle.event_core.specs.Allowed.{IsBase, is_allowed}
 use Rattle.event_core.specs.History.{catalogue_at}
 use Rattle.event_core.specs.Pages.{free_at, is_live}
-use Rattle.lean_core.proofs.Legal.{ordered_is_allowed}
+use Rattle.store_versions.proofs.Legal.{ordered_is_allowed}
 use Rattle.file_meaning.proofs.Parts.{front_all}
 use Rattle.file_meaning.proofs.Free.{weaker}
 use Rattle.store_state.specs.Laid.{Laid}

@@ -8,15 +8,15 @@ use Rattle.array_geom.specs.declared.chunk.Changed.{Changed}
 use Rattle.cell_values.specs.declared.schema.Schema.{Schema}
 use Rattle.chunk_map.specs.declared.directory.Directory.{Directory}
 use Rattle.page_chain.specs.Inner.Runs.{Over}
-use Rattle.page_slots.specs.declared.slots.slots.Slots.{Slots}
+use Rattle.page_chain.specs.declared.slots.slots.slots.Slots.{Slots}
 use Rattle.logical_plan.specs.declared.names.Names.{Names}
 use Rattle.plan_changes.specs.declared.change.Change.{Change}
 use Rattle.plan_changes.specs.Changes.{name_of, names_after, newest_of}
-use Rattle.commit_writes.specs.declared.placed.Placed.{Placed}
-use Rattle.commit_writes.specs.declared.stopped.Stopped.{Stopped}
-use Rattle.commit_writes.specs.declared.stopped.Stopped.TheVariants as stages
-use Rattle.commit_writes.specs.Commits.{HoldsAll, HoldsBlobs}
-use Rattle.commit_writes.specs.Moments.{IsKnown, IsOpened, IsUnopened}
+use Rattle.page_file.specs.declared.commits.placed.Placed.{Placed}
+use Rattle.page_file.specs.declared.commits.stopped.Stopped.{Stopped}
+use Rattle.page_file.specs.declared.commits.stopped.Stopped.TheVariants as stages
+use Rattle.page_file.specs.Commits.{HoldsAll, HoldsBlobs}
+use Rattle.page_file.specs.Moments.{IsKnown, IsOpened, IsUnopened}
 use Rattle.event_core.specs.declared.entry.Entry.{Entry}
 use Rattle.event_core.specs.declared.state.Core.{Core}
 use Rattle.event_core.specs.History.{History, catalogue_at, names_at}

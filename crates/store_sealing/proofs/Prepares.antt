@@ -9,8 +9,8 @@ use Rattle.chunk_map.specs.declared.directory.Directory.{Directory}
 use Rattle.chunk_map.specs.Spelling.{IsDirectory}
 use Rattle.logical_plan.specs.declared.names.Names.{Names}
 use Rattle.page_chain.specs.Pages.{AreDistinct}
-use Rattle.page_slots.specs.declared.slots.slots.Target.{Target}
-use Rattle.page_slots.specs.declared.slots.slots.Target.TheVariants.{Root, Record}
+use Rattle.page_chain.specs.declared.slots.slots.slots.Target.{Target}
+use Rattle.page_chain.specs.declared.slots.slots.slots.Target.TheVariants.{Root, Record}
 use Rattle.plan_changes.specs.declared.change.Change.{Change}
 use Rattle.plan_changes.specs.declared.change.Change.TheVariants.{Create, Store, Insert, Remove, RemoveVersions}
 use Rattle.plan_changes.specs.Changes.{name_of, newest_of}
@@ -29,7 +29,7 @@ use Rattle.event_core.specs.Legal.{has_committed}
 use Rattle.event_core.specs.Pages.{free_at, fresh_at}
 use Rattle.event_core.specs.Ready.{IsReadyOver, ReadyFor}
 use Rattle.event_core.specs.Replay.{core_at}
-use Rattle.lean_core.proofs.Legal.{ordered_is_allowed}
+use Rattle.store_versions.proofs.Legal.{ordered_is_allowed}
 use Rattle.commit_pages.specs.Costs.{cost_from}
 use Rattle.prepared_commits.specs.Laid.{Laid}
 use Rattle.prepared_commits.specs.Written.{Written}

@@ -6,12 +6,12 @@ use Rattle.std.specs.Option.{is_some}
 use Rattle.std.proofs.lemmas.Bool.{ltb-true, or_left, or_right}
 use Rattle.std.proofs.lemmas.Bool.Decides.{nat_tests}
 use Rattle.afl_outside.specs.Disk.{Moment}
-use Rattle.page_slots.specs.Places.{IsNone}
-use Rattle.page_slots.specs.declared.layout.sides.Format.{Format}
-use Rattle.page_slots.specs.declared.layout.sides.Format.TheVariants.{One, Two}
+use Rattle.page_chain.specs.Places.{IsNone}
+use Rattle.page_chain.specs.declared.slots.layout.sides.Format.{Format}
+use Rattle.page_chain.specs.declared.slots.layout.sides.Format.TheVariants.{One, Two}
 use Rattle.page_chain.specs.Pages.{AreDistinct}
-use Rattle.page_slots.specs.Steps.{first_target}
-use Rattle.page_slots.specs.declared.slots.slots.Target.TheVariants as targets
+use Rattle.page_chain.specs.Steps.{first_target}
+use Rattle.page_chain.specs.declared.slots.slots.slots.Target.TheVariants as targets
 use Rattle.page_file.specs.Written.{MayWrite}
 use Rattle.chunk_map.specs.declared.directory.Directory.{Directory}
 use Rattle.plan_changes.specs.declared.change.Change.{Change}
@@ -22,10 +22,10 @@ use Rattle.event_core.specs.Allowed.{IsBase, is_allowed}
 use Rattle.event_core.specs.Apart.{makes_version}
 use Rattle.event_core.specs.History.{History, catalogue_at}
 use Rattle.event_core.specs.Pages.{free_at, is_live}
-use Rattle.lean_core.proofs.Free.{no_free_page_is_live}
-use Rattle.lean_core.proofs.Legal.{ordered_is_allowed}
-use Rattle.commit_writes.specs.declared.placed.Placed.{Placed}
-use Rattle.commit_writes.specs.Commits.{base_pages, commit_pages, IsBlobSized, IsChainSized}
+use Rattle.store_versions.proofs.Free.{no_free_page_is_live}
+use Rattle.store_versions.proofs.Legal.{ordered_is_allowed}
+use Rattle.page_file.specs.declared.commits.placed.Placed.{Placed}
+use Rattle.page_file.specs.Commits.{base_pages, commit_pages, IsBlobSized, IsChainSized}
 use Rattle.store_state.specs.Written.{Written}
 use Rattle.store_state.specs.Laid.{Laid}
 use Rattle.store_state.specs.Commits.{record_needs, base_needs, record_laid, base_laid}

@@ -6,7 +6,7 @@ use Rattle.afl_outside.specs.declared.source.Failed.{Failed}
 use Rattle.afl_outside.specs.Counts.{Rose}
 use Rattle.afl_outside.specs.Disk.{DiskState, FailsWithCause, LeavesOnly, Moment}
 use Rattle.array_geom.specs.declared.chunk.Changed.{Changed}
-use Rattle.page_slots.specs.declared.slots.slots.Slots.{Slots}
+use Rattle.page_chain.specs.declared.slots.slots.slots.Slots.{Slots}
 use Rattle.plan_changes.specs.declared.change.Change.{Change}
 use Rattle.plan_changes.specs.Databases.{Database, after}
 use Rattle.event_core.specs.declared.entry.Entry.TheVariants.{Commit}
@@ -15,9 +15,9 @@ use Rattle.event_core.specs.Cells.{at}
 use Rattle.event_core.specs.Allowed.{allows, is_pinned}
 use Rattle.event_core.specs.History.{History}
 use Rattle.file_meaning.specs.Standing.{Stands}
-use Rattle.commit_writes.specs.declared.placed.Placed.{Placed}
-use Rattle.commit_writes.specs.declared.stopped.Stopped.{Stopped}
-use Rattle.commit_writes.specs.declared.stopped.Stopped.TheVariants as stages
+use Rattle.page_file.specs.declared.commits.placed.Placed.{Placed}
+use Rattle.page_file.specs.declared.commits.stopped.Stopped.{Stopped}
+use Rattle.page_file.specs.declared.commits.stopped.Stopped.TheVariants as stages
 use Rattle.store_ledger.specs.Ledger.{LedgerState, history, with_entries}
 use Rattle.store_ledger.proofs.Pins.{one_more}
 use Rattle.store_versions.specs.Rows.{directory_in}

@@ -1,14 +1,14 @@
 -- What an image stands for that opens as the slots say.
 use Rattle.std.proofs.Common.{◌≡◌, inl, inr, ℕ, Bool, true, false, ◌||◌, List, Some, None}
-use Rattle.page_slots.specs.Places.{other}
-use Rattle.page_slots.specs.declared.layout.sides.Side.{Side}
-use Rattle.page_slots.specs.declared.layout.roots.OpenRoot.{OpenRoot}
-use Rattle.page_slots.specs.declared.layout.logs.RecordAt.{RecordAt}
-use Rattle.page_slots.specs.Standing.{OpensAsRoot, OpensWith}
-use Rattle.page_slots.specs.declared.slots.slots.RootSlot.{RootSlot}
-use Rattle.page_slots.specs.declared.slots.slots.RootSlot.TheVariants as roots
-use Rattle.page_slots.specs.declared.slots.slots.NextEntry.{NextEntry}
-use Rattle.page_slots.specs.declared.slots.slots.NextEntry.TheVariants as entries
+use Rattle.page_chain.specs.Places.{other}
+use Rattle.page_chain.specs.declared.slots.layout.sides.Side.{Side}
+use Rattle.page_chain.specs.declared.slots.layout.roots.OpenRoot.{OpenRoot}
+use Rattle.page_chain.specs.declared.slots.layout.logs.RecordAt.{RecordAt}
+use Rattle.page_chain.specs.Standing.{OpensAsRoot, OpensWith}
+use Rattle.page_chain.specs.declared.slots.slots.slots.RootSlot.{RootSlot}
+use Rattle.page_chain.specs.declared.slots.slots.slots.RootSlot.TheVariants as roots
+use Rattle.page_chain.specs.declared.slots.slots.slots.NextEntry.{NextEntry}
+use Rattle.page_chain.specs.declared.slots.slots.slots.NextEntry.TheVariants as entries
 use Rattle.plan_changes.specs.Databases.{Database, after}
 use Rattle.file_meaning.specs.Slots.{Slots as FoundSlots}
 use Rattle.file_meaning.specs.Standing.{Stands}

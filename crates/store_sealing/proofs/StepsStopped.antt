@@ -1,7 +1,7 @@
 -- A store keeps what it keeps where a commit stopped.
 use Rattle.afl_outside.specs.Disk.{Moment}
-use Rattle.page_slots.specs.declared.slots.slots.Slots.{Slots}
-use Rattle.commit_writes.specs.declared.stopped.Stopped.{Stopped}
+use Rattle.page_chain.specs.declared.slots.slots.slots.Slots.{Slots}
+use Rattle.page_file.specs.declared.commits.stopped.Stopped.{Stopped}
 use Rattle.store_ledger.specs.Ledger.{history}
 use Rattle.prepared_commits.specs.Standings.{Standing, base_of, given_of}
 use Rattle.prepared_commits.specs.Kept.{IsKept}

@@ -10,8 +10,8 @@ use Rattle.event_core.specs.Allowed.{is_allowed}
 use Rattle.event_core.specs.History.{History, OpenPin, open_pins, pin_before}
 use Rattle.event_core.specs.Legal.{has_committed}
 use Rattle.event_core.proofs.Tests.{eq_sym}
-use Rattle.lean_core.specs.Pins.{pins_of}
-use Rattle.lean_core.proofs.Pins.{open_pins_are_these}
+use Rattle.store_versions.specs.Pins.{pins_of}
+use Rattle.store_versions.proofs.Pins.{open_pins_are_these}
 use Rattle.store_ledger.specs.declared.note.Note.{Note}
 use Rattle.store_ledger.specs.Ledger.{has_note, has_under, is_tried}
 use Rattle.prepared_commits.specs.Keeping.{tried_if_committed}

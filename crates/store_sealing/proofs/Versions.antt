@@ -16,7 +16,7 @@ use Rattle.event_core.specs.declared.entry.Entry.TheVariants.{Commit}
 use Rattle.event_core.specs.declared.state.Core.{Core}
 use Rattle.event_core.specs.History.{History, OpenPin, names_at, open_pins, pages_at}
 use Rattle.event_core.specs.Legal.{IsOrdered}
-use Rattle.lean_core.proofs.Legal.{ordered_names_are_stored}
+use Rattle.store_versions.proofs.Legal.{ordered_names_are_stored}
 use Rattle.store_state.specs.RowsLaws.{OrdersFollow}
 use Rattle.store_state.specs.Rows.{AreInOrder}
 use Rattle.store_versions.specs.declared.row.VersionRow.{VersionRow}

@@ -1,11 +1,11 @@
 -- What a store holds over a commit, on an honest disk.
 use Rattle.std.specs.Prelude.{ℕ, List}
 use Rattle.afl_outside.specs.Disk.{LeavesOnly, Moment}
-use Rattle.page_slots.specs.declared.slots.slots.Slots.{Slots}
+use Rattle.page_chain.specs.declared.slots.slots.slots.Slots.{Slots}
 use Rattle.plan_changes.specs.Databases.{Database, after}
 use Rattle.event_core.specs.Cells.{at}
 use Rattle.file_meaning.specs.Standing.{Stands}
-use Rattle.commit_writes.specs.declared.stopped.Stopped.{Stopped}
+use Rattle.page_file.specs.declared.commits.stopped.Stopped.{Stopped}
 use Rattle.store_ledger.specs.Ledger.{LedgerState, history}
 use Rattle.prepared_commits.specs.Calls.{NotesFault}
 use Rattle.prepared_commits.specs.Cells.{HoldsCells}

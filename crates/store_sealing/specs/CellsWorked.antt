@@ -5,8 +5,8 @@ use Rattle.array_geom.specs.declared.chunk.Changed.{Changed}
 use Rattle.file_meaning.specs.Inner.FileExample.{database, file, rows, schema}
 use Rattle.file_meaning.specs.Standing.{Stands, stored_chunk}
 use Rattle.file_meaning.specs.Inner.NextExample.{change, next}
-use Rattle.page_slots.specs.Steps.{doubted}
-use Rattle.commit_writes.specs.declared.stopped.Stopped.TheVariants as stages
+use Rattle.page_chain.specs.Steps.{doubted}
+use Rattle.page_file.specs.declared.commits.stopped.Stopped.TheVariants as stages
 use Rattle.prepared_commits.specs.Standings.{StandsFor}
 use Rattle.prepared_commits.specs.Worked.{worked_keeping, worked_moment, worked_slots}
 use Rattle.prepared_commits.specs.Prepared.{IsAsked}

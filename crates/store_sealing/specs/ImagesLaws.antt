@@ -2,16 +2,16 @@
 use Rattle.std.specs.Prelude.{◌≡◌, ◌⊎◌, ℕ, ◌+◌, List, [], ◌∷◌, ◌++◌, length, Option, None, Some, IfSome, is_some, true}
 use Rattle.afl_outside.specs.Disk.{LeavesOnly, Moment}
 use Rattle.array_geom.specs.declared.chunk.Changed.{Changed}
-use Rattle.page_slots.specs.Places.{other, KeepsPages}
-use Rattle.page_slots.specs.Opens.{OpensAs}
-use Rattle.page_slots.specs.declared.layout.logs.RecordAt.{RecordAt}
-use Rattle.page_slots.specs.declared.layout.roots.Root.{Root}
-use Rattle.page_slots.specs.Standing.{MayOpen, OpensAsRoot}
-use Rattle.page_slots.specs.Steps.{doubted}
-use Rattle.page_slots.specs.declared.slots.slots.Slots.{Slots}
-use Rattle.page_slots.specs.declared.slots.slots.NextEntry.TheVariants as entries
-use Rattle.page_slots.specs.declared.slots.slots.RootSlot.TheVariants as roots
-use Rattle.page_slots.specs.declared.slots.slots.Target.TheVariants as targets
+use Rattle.page_chain.specs.Places.{other, KeepsPages}
+use Rattle.page_chain.specs.Opens.{OpensAs}
+use Rattle.page_chain.specs.declared.slots.layout.logs.RecordAt.{RecordAt}
+use Rattle.page_chain.specs.declared.slots.layout.roots.Root.{Root}
+use Rattle.page_chain.specs.Standing.{MayOpen, OpensAsRoot}
+use Rattle.page_chain.specs.Steps.{doubted}
+use Rattle.page_chain.specs.declared.slots.slots.slots.Slots.{Slots}
+use Rattle.page_chain.specs.declared.slots.slots.slots.NextEntry.TheVariants as entries
+use Rattle.page_chain.specs.declared.slots.slots.slots.RootSlot.TheVariants as roots
+use Rattle.page_chain.specs.declared.slots.slots.slots.Target.TheVariants as targets
 use Rattle.chunk_map.specs.declared.directory.Directory.{Directory}
 use Rattle.plan_changes.specs.declared.change.Change.{Change}
 use Rattle.plan_changes.specs.Databases.{Database, after}
@@ -25,8 +25,8 @@ use Rattle.event_core.specs.Cells.{at}
 use Rattle.event_core.specs.History.{History}
 use Rattle.file_meaning.specs.Next.{with_base, with_record}
 use Rattle.file_meaning.specs.Premises.{StandsBy, slots_of, slots_with}
-use Rattle.commit_writes.specs.Commits.{HoldsAll, base_pages, commit_pages, record_of, root_of}
-use Rattle.commit_writes.specs.Moments.{HasRecord, MayBe, MayHaveBase, cleared}
+use Rattle.page_file.specs.Commits.{HoldsAll, base_pages, commit_pages, record_of, root_of}
+use Rattle.page_file.specs.Moments.{HasRecord, MayBe, MayHaveBase, cleared}
 use Rattle.store_state.specs.Laid.{Laid}
 use Rattle.store_state.specs.LaidPremises.{IsCommit, IsLaidBase, IsLaidRecord, made_of}
 use Rattle.store_ledger.specs.declared.note.Note.{Note}

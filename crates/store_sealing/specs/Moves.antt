@@ -2,13 +2,13 @@
 use Rattle.std.specs.Prelude.{ℕ, ◌⊎◌, List, [], ◌∷◌, Option, None, Some}
 use Rattle.afl_outside.specs.Disk.{DiskGoesOn, Moment}
 use Rattle.page_chain.specs.Inner.Runs.{Over}
-use Rattle.page_slots.specs.declared.slots.slots.Slots.{Slots}
+use Rattle.page_chain.specs.declared.slots.slots.slots.Slots.{Slots}
 use Rattle.plan_changes.specs.Databases.{Database}
 use Rattle.event_core.specs.Cells.{at}
-use Rattle.commit_writes.specs.declared.placed.Placed.{Placed}
-use Rattle.commit_writes.specs.declared.stopped.Stopped.{Stopped}
-use Rattle.commit_writes.specs.Commits.{base_pages, commit_pages}
-use Rattle.commit_writes.specs.Moments.{AddsRecord, HasRecord, MakesBase, MayHaveBase, PassesBy, StaysKnown, StopsBase, StopsRecord}
+use Rattle.page_file.specs.declared.commits.placed.Placed.{Placed}
+use Rattle.page_file.specs.declared.commits.stopped.Stopped.{Stopped}
+use Rattle.page_file.specs.Commits.{base_pages, commit_pages}
+use Rattle.page_file.specs.Moments.{AddsRecord, HasRecord, MakesBase, MayHaveBase, PassesBy, StaysKnown, StopsBase, StopsRecord}
 use Rattle.store_ledger.specs.Ledger.{history}
 use Rattle.prepared_commits.specs.Standings.{Standing, StandsFor}
 use Rattle.prepared_commits.specs.Keeping.{Keeping}

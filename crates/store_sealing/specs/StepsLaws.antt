@@ -2,8 +2,8 @@
 use Rattle.std.specs.Prelude.{List, ℕ, Option}
 use Rattle.afl_outside.specs.Disk.{DiskGoesOn, Moment}
 use Rattle.array_geom.specs.declared.chunk.Changed.{Changed}
-use Rattle.page_slots.specs.declared.slots.slots.Slots.{Slots}
-use Rattle.commit_writes.specs.declared.stopped.Stopped.{Stopped}
+use Rattle.page_chain.specs.declared.slots.slots.slots.Slots.{Slots}
+use Rattle.page_file.specs.declared.commits.stopped.Stopped.{Stopped}
 use Rattle.store_state.specs.Laid.{Laid}
 use Rattle.store_ledger.specs.Ledger.{LedgerState, history}
 use Rattle.prepared_commits.specs.Calls.{NotesFault}

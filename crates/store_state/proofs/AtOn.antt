@@ -8,9 +8,9 @@ use Rattle.std.proofs.lemmas.List.Folds.{list_any-append}
 use Rattle.afl_outside.specs.Counts.{Rose}
 use Rattle.afl_outside.specs.Disk.{LeavesOnly, Moment}
 use Rattle.page_chain.specs.Inner.Runs.{OnlyReads}
-use Rattle.page_slots.specs.Standing.{IsSound as AreSound}
+use Rattle.page_chain.specs.Standing.{IsSound as AreSound}
 use Rattle.plan_changes.specs.Databases.{Database}
-use Rattle.commit_writes.specs.Moments.{IsKnown}
+use Rattle.page_file.specs.Moments.{IsKnown}
 use Rattle.event_core.specs.declared.entry.Entry.{Entry}
 use Rattle.event_core.specs.declared.entry.Entry.TheVariants.{Pin, Unpin, Commit, Reap}
 use Rattle.event_core.specs.declared.state.Core.{Core}

@@ -2,8 +2,8 @@
 use Rattle.std.proofs.Common.{◌≡◌, ◌+◌, ◌<◌, ℕ, List, [], ◌∷◌, ◌++◌, length, Option, sym, subst, arith}
 use Rattle.std.specs.List.{AllByRecursion}
 use Rattle.array_geom.specs.declared.chunk.Changed.{Changed}
-use Rattle.page_slots.specs.Places.{IsNone, KeepsPages}
-use Rattle.page_slots.specs.declared.layout.sides.Side.{Side}
+use Rattle.page_chain.specs.Places.{IsNone, KeepsPages}
+use Rattle.page_chain.specs.declared.slots.layout.sides.Side.{Side}
 use Rattle.page_chain.specs.Links.{AreFree}
 use Rattle.chunk_map.specs.declared.directory.Directory.{Directory}
 use Rattle.file_meaning.specs.Change.{Change}
@@ -19,7 +19,7 @@ use Rattle.file_meaning.specs.declared.meaning.found.Found.{Found}
 use Rattle.file_meaning.specs.Next.{Made, with_base}
 use Rattle.file_meaning.specs.NextLaws.{BasesMakeNext, FreePagesTurn}
 use Rattle.file_meaning.specs.Premises.{StandsBy, HasChain, HoldsBase, root_at, slots_of}
-use Rattle.commit_writes.specs.Commits.{base_pages, HoldsAll, root_of}
+use Rattle.page_file.specs.Commits.{base_pages, HoldsAll, root_of}
 use Rattle.commit_pages.specs.declared.pages.laid.Laid.{Laid}
 use Rattle.commit_pages.specs.Versions.{draft_of, new_version}
 use Rattle.commit_pages.specs.Commits.{chain_in, catalog_bytes, rest_of, base_needs, base_laid}

@@ -7,7 +7,7 @@ use Rattle.array_geom.specs.declared.chunk.Chunk.{Chunk}
 use Rattle.array_geom.specs.Geometry.{has_core}
 use Rattle.chunk_map.specs.declared.directory.DirEntry.{DirEntry}
 use Rattle.commit_pages.specs.Stored.{IsStored}
-use Rattle.commit_writes.specs.declared.placed.Placed.{Placed}
+use Rattle.page_file.specs.declared.commits.placed.Placed.{Placed}
 use Rattle.commit_pages.specs.Versions.{all_placed, draft, settled, entry_of, entries_of, directory_of}
 use Rattle.commit_pages.proofs.Costs.{replaced_has, found_has}
 use Rattle.commit_pages.proofs.Directories.{draft_rises, inserts_replace, stores_list_theirs}

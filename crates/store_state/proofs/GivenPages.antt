@@ -17,10 +17,10 @@ use Rattle.event_core.specs.Allowed.{are_different, is_pinned}
 use Rattle.event_core.specs.Apart.{makes_version}
 use Rattle.event_core.specs.History.{History, catalogue_at, names_at, pages_at}
 use Rattle.event_core.specs.Pages.{free_at, fresh_at, is_newest}
-use Rattle.lean_core.proofs.Free.{dead, no_free_page_is_live, not_newest}
+use Rattle.store_versions.proofs.Free.{dead, no_free_page_is_live, not_newest}
 use Rattle.file_meaning.proofs.Apart.{both_all}
 use Rattle.file_meaning.proofs.Parts.{front_all, rest_all}
-use Rattle.commit_writes.specs.Commits.{pages_of}
+use Rattle.page_file.specs.Commits.{pages_of}
 use Rattle.commit_pages.specs.declared.pages.written.Written.{Written}
 use Rattle.commit_pages.specs.Commits.{chain_in, rest_of, record_bytes, catalog_bytes, record_laid, base_laid}
 use Rattle.commit_pages.specs.Laws.{is_known, IsApart, AreSamePages}

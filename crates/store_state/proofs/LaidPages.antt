@@ -5,14 +5,14 @@ use Rattle.std.specs.List.{AllByRecursion, filter, flat_map}
 use Rattle.std.proofs.lemmas.List.{append_assoc, length-append}
 use Rattle.arrayvec.specs.ArrayVec.{ArrayVec}
 use Rattle.array_rows.specs.Boxes.{by_pairs}
-use Rattle.page_slots.specs.Places.{IsNone}
+use Rattle.page_chain.specs.Places.{IsNone}
 use Rattle.page_chain.specs.Pages.{page_size, pages_for}
 use Rattle.page_chain.specs.Links.{AreFree}
 use Rattle.chunk_map.specs.declared.directory.DirEntry.{DirEntry}
 use Rattle.file_meaning.specs.Opening.{is_seen}
 use Rattle.file_meaning.specs.NextLaws.{FreePagesTurn}
-use Rattle.commit_writes.specs.declared.placed.Placed.{Placed}
-use Rattle.commit_writes.specs.Commits.{pages_of, IsBlobSized}
+use Rattle.page_file.specs.declared.commits.placed.Placed.{Placed}
+use Rattle.page_file.specs.Commits.{pages_of, IsBlobSized}
 use Rattle.commit_pages.specs.Versions.{entry_of}
 
 -- ---- free pages

@@ -1,6 +1,6 @@
 -- An array that is removed by a new base, computed: what the law of laid bases asks.
 use Rattle.std.proofs.Common.{[], ◌∷◌, None, refl, sym, subst, arith}
-use Rattle.page_slots.specs.Places.{KeepsPages}
+use Rattle.page_chain.specs.Places.{KeepsPages}
 use Rattle.page_chain.specs.Pages.{page_size}
 use Rattle.chunk_map.specs.Spelling.{spelling as directory_spelling, spell_entry}
 use Rattle.commit_pages.specs.Chunks.{spelling as payload_spelling}
@@ -11,7 +11,7 @@ use Rattle.file_meaning.specs.Catalogs.{IsCatalog, names_in}
 use Rattle.file_meaning.specs.Spelling.{spelling}
 use Rattle.commit_pages.specs.Costs.{catalog_of}
 use Rattle.commit_pages.specs.Lengths.{AreAlikeCatalogs}
-use Rattle.commit_writes.specs.Commits.{base_pages, HoldsAll}
+use Rattle.page_file.specs.Commits.{base_pages, HoldsAll}
 use Rattle.commit_pages.specs.Commits.{base_needs, base_laid}
 use Rattle.file_meaning.specs.Inner.FileExample.{database, file}
 use Rattle.file_meaning.specs.Inner.NextExample.{found, slots}

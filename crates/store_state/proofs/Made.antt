@@ -29,7 +29,7 @@ use Rattle.file_meaning.specs.declared.meaning.found.Found.{Found}
 use Rattle.file_meaning.specs.Next.{Made, blob_of}
 use Rattle.file_meaning.specs.NextLaws.{HadEntriesAreSeen, LaterEntriesAreUnseen, ReplacingEntriesAreUnseen}
 use Rattle.file_meaning.specs.Premises.{StandsBy, HoldsEntry, IsWritten as IsEarly, HoldsMade, OfVersion, made_pages, row_of, seen_before}
-use Rattle.commit_writes.specs.Commits.{pages_of, HoldsBlobs}
+use Rattle.page_file.specs.Commits.{pages_of, HoldsBlobs}
 use Rattle.commit_pages.specs.declared.pages.version.NewVersion.{NewVersion}
 use Rattle.commit_pages.specs.declared.pages.written.Written.{Written}
 use Rattle.commit_pages.specs.Versions.{blob_count, placed, all_placed, blob_at, draft, draft_of, settled, entries_of, directory_of, directory_bytes, version_in, new_version, version_needs, put_entries, HasRisingNumbers}

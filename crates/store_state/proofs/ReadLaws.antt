@@ -36,8 +36,8 @@ use Rattle.plan_changes.specs.Stored.{IsStored as AreStoredSo}
 use Rattle.afl_outside.specs.Counts.{Rose}
 use Rattle.afl_outside.specs.Disk.{Moment}
 use Rattle.page_chain.specs.Inner.Runs.{OnlyReads}
-use Rattle.page_slots.specs.Standing.{IsSound as AreSound}
-use Rattle.page_slots.specs.declared.slots.slots.Slots.{Slots}
+use Rattle.page_chain.specs.Standing.{IsSound as AreSound}
+use Rattle.page_chain.specs.declared.slots.slots.slots.Slots.{Slots}
 use Rattle.event_core.specs.Cells.{at as at_history}
 use Rattle.event_core.specs.History.{History, names_at}
 use Rattle.store_ledger.specs.Ledger.{LedgerState, with_fault}

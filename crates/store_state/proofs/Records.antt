@@ -5,7 +5,7 @@ use Rattle.std.specs.List.{AllByRecursion}
 use Rattle.std.specs.Option.{is_some}
 use Rattle.std.proofs.lemmas.List.{append_assoc}
 use Rattle.array_geom.specs.declared.chunk.Changed.{Changed}
-use Rattle.page_slots.specs.Places.{IsNone, KeepsPages}
+use Rattle.page_chain.specs.Places.{IsNone, KeepsPages}
 use Rattle.page_chain.specs.Links.{AreFree}
 use Rattle.chunk_map.specs.declared.directory.Directory.{Directory}
 use Rattle.logical_plan.specs.declared.names.Names.{Names}
@@ -28,7 +28,7 @@ use Rattle.file_meaning.specs.declared.meaning.found.Found.{Found}
 use Rattle.file_meaning.specs.Next.{Made, with_record}
 use Rattle.file_meaning.specs.NextLaws.{RecordsMakeNext, FreePagesTurn}
 use Rattle.file_meaning.specs.Premises.{StandsBy, HasChain, HoldsRecord, seen_before, record_at, slots_with}
-use Rattle.commit_writes.specs.Commits.{commit_pages, HoldsAll, record_of}
+use Rattle.page_file.specs.Commits.{commit_pages, HoldsAll, record_of}
 use Rattle.commit_pages.specs.declared.pages.laid.Laid.{Laid}
 use Rattle.commit_pages.specs.Versions.{draft_of, new_version, IsWritten}
 use Rattle.commit_pages.specs.Changes.{AreValid, ComesWith}

@@ -13,8 +13,8 @@ use Rattle.chunk_map.specs.declared.directory.Directory.{Directory}
 use Rattle.version_reaper.specs.PageSets.{holds}
 use Rattle.file_meaning.proofs.Parts.{front_all, rest_all}
 use Rattle.file_meaning.proofs.Apart.{both_all}
-use Rattle.commit_writes.specs.declared.placed.Placed.{Placed}
-use Rattle.commit_writes.specs.Commits.{pages_of}
+use Rattle.page_file.specs.declared.commits.placed.Placed.{Placed}
+use Rattle.page_file.specs.Commits.{pages_of}
 use Rattle.commit_pages.specs.declared.pages.written.Written.{Written}
 use Rattle.commit_pages.specs.Versions.{placed, all_placed, settled, entry_of, entries_of, put_by, put_entry, put_entries, directory_of, directory_bytes, version_in, new_version}
 use Rattle.commit_pages.proofs.Blobs.{pages_more}

@@ -6,14 +6,14 @@ use Rattle.file_items.specs.Pages.{pages_at}
 use Rattle.file_items.specs.Table.{name_fields, name_at, kind_at, flag_at, typed_at, attribute_at, attributes_at, signed_at, range_at, cut_at, extent_at, dimension_at, dimensions_at, schema_at}
 use Rattle.chunk_map.specs.Table as items
 use Rattle.version_catalog.specs.Table.{blob_at, version_at, numbered_at, content_at, items_at, array_at, arrays_at}
-use Rattle.page_slots.specs.Places.{number_at}
-use Rattle.page_slots.specs.Roots.{has_front, slot_in}
-use Rattle.page_slots.specs.Opens.{OpensAs}
-use Rattle.page_slots.specs.declared.layout.sides.Side.TheVariants.{A, B}
+use Rattle.page_chain.specs.Places.{number_at}
+use Rattle.page_chain.specs.Roots.{has_front, slot_in}
+use Rattle.page_chain.specs.Opens.{OpensAs}
+use Rattle.page_chain.specs.declared.slots.layout.sides.Side.TheVariants.{A, B}
 use Rattle.page_chain.specs.Pages.{page_size}
-use Rattle.page_slots.specs.Standing.{Holds}
+use Rattle.page_chain.specs.Standing.{Holds}
 use Rattle.plan_changes.specs.Databases.{Database, rows_of}
-use Rattle.commit_writes.specs.Moments.{IsKnown}
+use Rattle.page_file.specs.Moments.{IsKnown}
 use Rattle.file_meaning.specs.Slots.{slots_in}
 use Rattle.file_meaning.specs.Opening.{are_pages, found_in, opened}
 use Rattle.file_meaning.specs.Standing.{HoldsDatabase, HoldsFound, Stands}

@@ -2,19 +2,19 @@
 use Rattle.std.specs.Prelude.{◌≡◌, ℕ, ◌+◌, List, Option, Ok, IfSome}
 use Rattle.std.specs.List.{AllByRecursion, AllZip}
 use Rattle.afl_outside.specs.Disk.{Moment}
-use Rattle.page_slots.specs.Places.{other}
-use Rattle.page_slots.specs.declared.layout.sides.Side.{Side}
-use Rattle.page_slots.specs.declared.slots.slots.Slots.{Slots}
-use Rattle.page_slots.specs.declared.slots.slots.RootSlot.{RootSlot}
-use Rattle.page_slots.specs.declared.slots.slots.RootSlot.TheVariants as roots
-use Rattle.page_slots.specs.declared.slots.slots.NextEntry.{NextEntry}
-use Rattle.page_slots.specs.declared.slots.slots.NextEntry.TheVariants as entries
+use Rattle.page_chain.specs.Places.{other}
+use Rattle.page_chain.specs.declared.slots.layout.sides.Side.{Side}
+use Rattle.page_chain.specs.declared.slots.slots.slots.Slots.{Slots}
+use Rattle.page_chain.specs.declared.slots.slots.slots.RootSlot.{RootSlot}
+use Rattle.page_chain.specs.declared.slots.slots.slots.RootSlot.TheVariants as roots
+use Rattle.page_chain.specs.declared.slots.slots.slots.NextEntry.{NextEntry}
+use Rattle.page_chain.specs.declared.slots.slots.slots.NextEntry.TheVariants as entries
 use Rattle.plan_changes.specs.declared.change.Change.{Change}
 use Rattle.plan_changes.specs.Databases.{Database, after}
 use Rattle.plan_changes.specs.Stored.{IsDatabase}
 use Rattle.version_catalog.specs.declared.rules.catalog.Catalog.{Catalog}
 use Rattle.commit_pages.specs.Costs.{cost_from}
-use Rattle.commit_writes.specs.Moments.{IsKnown}
+use Rattle.page_file.specs.Moments.{IsKnown}
 use Rattle.file_meaning.specs.Opening.{found_in}
 use Rattle.file_meaning.specs.Slots.{Slots as FoundSlots}
 use Rattle.file_meaning.specs.Standing.{HoldsDatabase}

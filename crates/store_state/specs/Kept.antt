@@ -2,9 +2,9 @@
 use Rattle.std.specs.Prelude.{◌≡◌, ◌≤◌, [], ◌∷◌, List, length, IsTrue, is_some}
 use Rattle.std.specs.List.{AllByRecursion, AllZip, list_all}
 use Rattle.afl_outside.specs.Disk.{Moment}
-use Rattle.page_slots.specs.Standing.{IsAlone}
-use Rattle.page_slots.specs.Steps.{first_target}
-use Rattle.page_slots.specs.declared.slots.slots.Slots.{Slots}
+use Rattle.page_chain.specs.Standing.{IsAlone}
+use Rattle.page_chain.specs.Steps.{first_target}
+use Rattle.page_chain.specs.declared.slots.slots.slots.Slots.{Slots}
 use Rattle.version_catalog.specs.Catalogs.{IsCatalog, names_in}
 use Rattle.version_reaper.specs.PageSets.{holds}
 use Rattle.file_meaning.specs.Opening.{sequence_of}

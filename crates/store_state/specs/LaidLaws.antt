@@ -3,12 +3,12 @@ use Rattle.std.specs.Prelude.{◌≡◌, ℕ, ◌+◌, List, [], ◌∷◌, ◌+
 use Rattle.std.specs.List.{AllByRecursion}
 use Rattle.array_geom.specs.declared.chunk.Changed.{Changed}
 use Rattle.array_geom.specs.Geometry.{has_core}
-use Rattle.page_slots.specs.Places.{KeepsPages}
-use Rattle.page_slots.specs.Opens.{OpensAs}
-use Rattle.page_slots.specs.declared.layout.sides.Side.{Side}
-use Rattle.page_slots.specs.declared.layout.roots.Root.{Root}
-use Rattle.page_slots.specs.Standing.{OpensAsRoot}
-use Rattle.page_slots.specs.declared.slots.slots.RootSlot.TheVariants.{Opening}
+use Rattle.page_chain.specs.Places.{KeepsPages}
+use Rattle.page_chain.specs.Opens.{OpensAs}
+use Rattle.page_chain.specs.declared.slots.layout.sides.Side.{Side}
+use Rattle.page_chain.specs.declared.slots.layout.roots.Root.{Root}
+use Rattle.page_chain.specs.Standing.{OpensAsRoot}
+use Rattle.page_chain.specs.declared.slots.slots.slots.RootSlot.TheVariants.{Opening}
 use Rattle.chunk_map.specs.declared.directory.Directory.{Directory}
 use Rattle.chunk_map.specs.Entries.{AreRising}
 use Rattle.file_meaning.specs.Change.{Change}
@@ -19,7 +19,7 @@ use Rattle.file_meaning.specs.Standing.{Stands}
 use Rattle.file_meaning.specs.declared.meaning.found.Found.{Found}
 use Rattle.file_meaning.specs.Next.{with_record, with_base}
 use Rattle.file_meaning.specs.Premises.{StandsBy, slots_with, slots_of}
-use Rattle.commit_writes.specs.Commits.{HoldsAll, record_of, root_of, commit_pages, base_pages}
+use Rattle.page_file.specs.Commits.{HoldsAll, record_of, root_of, commit_pages, base_pages}
 use Rattle.commit_pages.specs.declared.pages.laid.Laid.{Laid}
 use Rattle.commit_pages.specs.Changes.{AreValid}
 use Rattle.commit_pages.specs.Versions.{draft, settled, directory_of}

@@ -8,7 +8,7 @@ use Rattle.chunk_map.specs.declared.directory.DirEntry.{DirEntry}
 use Rattle.chunk_map.specs.declared.directory.Directory.{Directory}
 use Rattle.logical_plan.specs.declared.names.Names.{Names}
 use Rattle.plan_changes.specs.Changes.{entry_named}
-use Rattle.commit_writes.specs.Moments.{IsKnown}
+use Rattle.page_file.specs.Moments.{IsKnown}
 use Rattle.file_meaning.specs.Opening.{are_pages}
 use Rattle.event_core.specs.declared.state.Core.{Core}
 use Rattle.event_core.specs.History.{History, names_at, open_pins}

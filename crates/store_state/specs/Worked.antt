@@ -2,12 +2,12 @@
 use Rattle.std.specs.Prelude.{◌≡◌, true, false, [], ◌∷◌, codes, None, Some}
 use Rattle.afl_outside.specs.Disk.{Moment}
 use Rattle.chunk_map.specs.declared.directory.Directory.{Directory}
-use Rattle.page_slots.specs.declared.layout.sides.Side.TheVariants.{A}
-use Rattle.page_slots.specs.declared.layout.sides.Format.TheVariants.{Two}
-use Rattle.page_slots.specs.declared.slots.slots.Slots.{Slots}
-use Rattle.page_slots.specs.declared.slots.slots.RootSlot.TheVariants as roots
-use Rattle.page_slots.specs.declared.slots.slots.NextEntry.TheVariants as entries
-use Rattle.page_slots.specs.declared.slots.slots.Target.TheVariants as targets
+use Rattle.page_chain.specs.declared.slots.layout.sides.Side.TheVariants.{A}
+use Rattle.page_chain.specs.declared.slots.layout.sides.Format.TheVariants.{Two}
+use Rattle.page_chain.specs.declared.slots.slots.slots.Slots.{Slots}
+use Rattle.page_chain.specs.declared.slots.slots.slots.RootSlot.TheVariants as roots
+use Rattle.page_chain.specs.declared.slots.slots.slots.NextEntry.TheVariants as entries
+use Rattle.page_chain.specs.declared.slots.slots.slots.Target.TheVariants as targets
 use Rattle.version_catalog.specs.declared.rules.catalog.Catalog.{Catalog}
 use Rattle.version_reaper.specs.PageSets.{pages_from}
 use Rattle.file_meaning.specs.Inner.FileExample.{file, schema}

@@ -2,9 +2,9 @@
 use Rattle.std.proofs.Common.{◌≡◌, ◌∙◌, ℕ, ◌≤◌, ◌<◌, if◌then◌else◌, [], ◌∷◌, length, refl, ap, sym, arith}
 use Rattle.std.proofs.lemmas.Bool.{ne_eqb}
 use Rattle.chunk_map.specs.declared.directory.Directory.{Directory}
-use Rattle.lean_core.specs.Entry.TheVariants.{Pin, Unpin, Commit, Reap}
-use Rattle.lean_core.specs.Core.{Core}
-use Rattle.lean_core.specs.History.{History, names_at, open_pins}
+use Rattle.event_core.specs.declared.entry.Entry.TheVariants.{Pin, Unpin, Commit, Reap}
+use Rattle.event_core.specs.declared.state.Core.{Core}
+use Rattle.event_core.specs.History.{History, names_at, open_pins}
 use Rattle.store_versions.specs.Laws.{with_made, LaterDirectoriesAreFree}
 use Rattle.store_versions.specs.Seen.{seen}
 use Rattle.store_versions.specs.Versions.{Directories, versions_after, versions_at}

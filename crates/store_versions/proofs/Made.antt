@@ -7,21 +7,21 @@ use Rattle.std.proofs.lemmas.List.{map-append}
 use Rattle.std.proofs.lemmas.List.Folds.{list_any-append, list_all-append}
 use Rattle.std.proofs.lemmas.Map.Views.{any-filter_same}
 use Rattle.std.proofs.lemmas.Slice.Eq.{bytes_eq-Decides}
-use Rattle.lean_core.specs.NameEntry.{NameEntry}
-use Rattle.lean_core.specs.Names.{Names}
-use Rattle.lean_core.specs.Change.{Change}
-use Rattle.lean_core.specs.Change.TheVariants.{Create, Store, Insert, Remove, RemoveVersions}
-use Rattle.lean_core.specs.Changes.{is_named, next_of}
+use Rattle.plan_changes.specs.NameEntry.{NameEntry}
+use Rattle.plan_changes.specs.Names.{Names}
+use Rattle.plan_changes.specs.declared.change.Change.{Change}
+use Rattle.plan_changes.specs.declared.change.Change.TheVariants.{Create, Store, Insert, Remove, RemoveVersions}
+use Rattle.plan_changes.specs.Changes.{is_named, next_of}
 use Rattle.version_reaper.specs.PageSets.{holds}
 use Rattle.chunk_map.specs.declared.directory.Directory.{Directory}
-use Rattle.lean_core.specs.Entry.TheVariants.{Pin, Unpin, Commit, Reap}
-use Rattle.lean_core.specs.VersionPages.{VersionPages}
-use Rattle.lean_core.specs.Core.{Core}
-use Rattle.lean_core.specs.Agree.{has_version}
-use Rattle.lean_core.specs.History.{History, names_at, pages_at, pages_after, is_pages_of}
-use Rattle.lean_core.specs.Legal.{BeginsWithNames, IsOrdered}
-use Rattle.lean_core.proofs.Tests.{both_not}
-use Rattle.lean_core.proofs.Legal.{ordered_versions_have_pages}
+use Rattle.event_core.specs.declared.entry.Entry.TheVariants.{Pin, Unpin, Commit, Reap}
+use Rattle.event_core.specs.declared.state.VersionPages.{VersionPages}
+use Rattle.event_core.specs.declared.state.Core.{Core}
+use Rattle.event_core.specs.Agree.{has_version}
+use Rattle.event_core.specs.History.{History, names_at, pages_at, pages_after, is_pages_of}
+use Rattle.event_core.specs.Legal.{BeginsWithNames, IsOrdered}
+use Rattle.event_core.proofs.Tests.{both_not}
+use Rattle.store_versions.proofs.Legal.{ordered_versions_have_pages}
 use Rattle.store_versions.specs.declared.row.VersionRow.{VersionRow}
 use Rattle.store_versions.specs.Laws.{BasesAreSeen, BasesHaveDirectories, NamedVersionsHaveDirectories}
 use Rattle.store_versions.specs.Rows.{is_seen, first_row, array_rows, first_rows}

@@ -6,9 +6,9 @@ use Rattle.std.proofs.lemmas.Bool.{and_parts, and_from, and_left, and_right, leb
 use Rattle.std.proofs.lemmas.List.{map-append, append-nil}
 use Rattle.std.proofs.lemmas.List.Elements.{filter-append}
 use Rattle.std.proofs.lemmas.List.Folds.{list_all-append}
-use Rattle.lean_core.proofs.Maps.{all_weaker}
-use Rattle.lean_core.proofs.Tests.{both_not, if_tests, map_filter, filter_agrees}
-use Rattle.lean_core.proofs.Conserved.{filter_filter}
+use Rattle.plan_changes.proofs.Maps.{all_weaker}
+use Rattle.event_core.proofs.Tests.{both_not, if_tests, map_filter, filter_agrees}
+use Rattle.store_versions.proofs.Conserved.{filter_filter}
 use Rattle.chunk_map.specs.declared.directory.Directory.{Directory}
 use Rattle.store_versions.specs.declared.row.VersionRow.{VersionRow}
 use Rattle.store_versions.specs.Rows.{is_before, is_seen, stands, new_row, ended}

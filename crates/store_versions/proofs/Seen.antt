@@ -3,17 +3,17 @@ use Rattle.std.proofs.Common.{◌≡◌, ◌∙◌, ℕ, suc, ◌<◌, ◌≤◌
 use Rattle.std.specs.Prelude.{nat_lt}
 use Rattle.std.specs.List.{filter, list_any, list_all, AllByRecursion}
 use Rattle.std.proofs.lemmas.Bool.{or_left, or_right}
-use Rattle.lean_core.specs.Change.{Change}
-use Rattle.lean_core.specs.Change.TheVariants.{Create, Store, Insert, Remove, RemoveVersions}
-use Rattle.lean_core.specs.Changes.{next_of}
-use Rattle.lean_core.specs.Used.{Used}
-use Rattle.lean_core.specs.Entry.TheVariants.{Pin, Unpin, Commit, Reap}
-use Rattle.lean_core.specs.Core.{Core}
-use Rattle.lean_core.specs.History.{History, OpenPin, names_at, open_pins}
-use Rattle.lean_core.proofs.Tests.{any_map}
-use Rattle.lean_core.proofs.Conserved.{filter_filter}
-use Rattle.lean_core.proofs.Pins.{open_pins_are_these}
-use Rattle.lean_core.specs.Pins.{pins_of}
+use Rattle.plan_changes.specs.declared.change.Change.{Change}
+use Rattle.plan_changes.specs.declared.change.Change.TheVariants.{Create, Store, Insert, Remove, RemoveVersions}
+use Rattle.plan_changes.specs.Changes.{next_of}
+use Rattle.event_core.specs.declared.entry.Used.{Used}
+use Rattle.event_core.specs.declared.entry.Entry.TheVariants.{Pin, Unpin, Commit, Reap}
+use Rattle.event_core.specs.declared.state.Core.{Core}
+use Rattle.event_core.specs.History.{History, OpenPin, names_at, open_pins}
+use Rattle.event_core.proofs.Tests.{any_map}
+use Rattle.store_versions.proofs.Conserved.{filter_filter}
+use Rattle.store_versions.proofs.Pins.{open_pins_are_these}
+use Rattle.store_versions.specs.Pins.{pins_of}
 use Rattle.store_versions.specs.declared.row.VersionRow.{VersionRow}
 use Rattle.store_versions.specs.Laws.{TablesFollowEntries, ForgettingIsSeen, PinsSeeTheirVersions}
 use Rattle.store_versions.specs.Rows.{is_seen, is_needed, needed_rows, places_at, stands, new_row, ended, rows_after}

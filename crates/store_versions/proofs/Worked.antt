@@ -1,6 +1,6 @@
 -- The worked table, computed.
 use Rattle.std.proofs.Common.{◌≡◌, [], ◌∷◌, drop, refl}
-use Rattle.lean_core.specs.Shared.{shared_base, shared}
+use Rattle.event_core.specs.Shared.{shared_base, shared}
 use Rattle.store_versions.specs.Rows.{needed_rows, places_at}
 use Rattle.store_versions.specs.Seen.{seen, AreSeen}
 use Rattle.store_versions.specs.Worked.{worked_directories, worked_rows, first_version, second_version}

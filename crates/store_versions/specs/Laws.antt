@@ -1,14 +1,14 @@
 -- What holds of tables of versions.
 use Rattle.std.specs.Prelude.{◌≡◌, ◌≤◌, ℕ, List, [], ◌∷◌, length, map, Some, nat_eq, if◌then◌else◌, IsTrue}
-use Rattle.lean_core.specs.Names.{Names}
-use Rattle.lean_core.specs.Change.{Change}
+use Rattle.plan_changes.specs.Names.{Names}
+use Rattle.plan_changes.specs.declared.change.Change.{Change}
 use Rattle.chunk_map.specs.declared.directory.Directory.{Directory}
-use Rattle.lean_core.specs.Used.{Used}
-use Rattle.lean_core.specs.Entry.TheVariants.{Pin, Unpin, Commit, Reap}
-use Rattle.lean_core.specs.Core.{Core}
+use Rattle.event_core.specs.declared.entry.Used.{Used}
+use Rattle.event_core.specs.declared.entry.Entry.TheVariants.{Pin, Unpin, Commit, Reap}
+use Rattle.event_core.specs.declared.state.Core.{Core}
 use Rattle.event_core.specs.Allowed.{is_allowed}
-use Rattle.lean_core.specs.History.{History, names_at, pin_before}
-use Rattle.lean_core.specs.Legal.{IsOrdered}
+use Rattle.event_core.specs.History.{History, names_at, pin_before}
+use Rattle.event_core.specs.Legal.{IsOrdered}
 use Rattle.store_versions.specs.declared.row.VersionRow.{VersionRow}
 use Rattle.store_versions.specs.Rows.{rows_after, needed_rows, places_at, first_rows}
 use Rattle.store_versions.specs.Seen.{version_of, seen, AreSeen}

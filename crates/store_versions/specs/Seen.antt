@@ -1,8 +1,8 @@
 -- What each place sees in a table of versions, and that it is what could be named there.
 use Rattle.std.specs.Prelude.{◌≡◌, ℕ, Bool, true, ◌&&◌, nat_le, List, length, map, Option, None, Some, IsTrue}
 use Rattle.std.specs.List.{filter, list_all, AllByRecursion}
-use Rattle.lean_core.specs.Core.{Core}
-use Rattle.lean_core.specs.History.{History, open_pins}
+use Rattle.event_core.specs.declared.state.Core.{Core}
+use Rattle.event_core.specs.History.{History, open_pins}
 use Rattle.store_versions.specs.declared.row.VersionRow.{VersionRow}
 use Rattle.store_versions.specs.Rows.{is_seen}
 use Rattle.store_versions.specs.Versions.{MadeVersion, Directories, versions_at}

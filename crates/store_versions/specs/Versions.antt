@@ -3,15 +3,15 @@ use Rattle.std.specs.Prelude.{◌≡◌, ℕ, Bool, not, ◌&&◌, nat_eq, nat_l
 use Rattle.std.specs.List.{filter, find, list_any}
 use Rattle.std.specs.Option.{option_map}
 use Rattle.std.specs.Str.{bytes_eq}
-use Rattle.lean_core.specs.Names.{Names}
-use Rattle.lean_core.specs.Change.{Change}
-use Rattle.lean_core.specs.Change.TheVariants.{Create, Store, Insert, Remove, RemoveVersions}
-use Rattle.lean_core.specs.Changes.{next_of}
+use Rattle.plan_changes.specs.Names.{Names}
+use Rattle.plan_changes.specs.declared.change.Change.{Change}
+use Rattle.plan_changes.specs.declared.change.Change.TheVariants.{Create, Store, Insert, Remove, RemoveVersions}
+use Rattle.plan_changes.specs.Changes.{next_of}
 use Rattle.chunk_map.specs.declared.directory.Directory.{Directory}
-use Rattle.lean_core.specs.Entry.TheVariants.{Pin, Unpin, Commit, Reap}
-use Rattle.lean_core.specs.Core.{Core}
-use Rattle.lean_core.specs.Agree.{can_name}
-use Rattle.lean_core.specs.History.{History, names_at}
+use Rattle.event_core.specs.declared.entry.Entry.TheVariants.{Pin, Unpin, Commit, Reap}
+use Rattle.event_core.specs.declared.state.Core.{Core}
+use Rattle.event_core.specs.Agree.{can_name}
+use Rattle.event_core.specs.History.{History, names_at}
 
 -- a version of an array, with the directory that it was made with
 pub record MadeVersion : Type 0 where

@@ -5,7 +5,7 @@ ghost use Rattle.store_versions.specs.Rows.{first_row, array_rows, first_rows};
 use crate::VersionRow;
 use cell_values::{List, Memory, Name};
 use chunk_map::Directory;
-use lean_core::{NameEntry, Names};
+use plan_changes::{NameEntry, Names};
 
 /// The row of a version that was there at the opening.
 fn first_row(name: &Name, version: u32, directory: Directory) -> Result<VersionRow, Memory>

@@ -1,6 +1,6 @@
 //! What holds of tables of versions.
 ghost use Rattle.std.specs.Prelude.{◌≡◌, [], ◌∷◌, drop};
-ghost use Rattle.lean_core.specs.Shared.{shared_base, shared};
+ghost use Rattle.event_core.specs.Shared.{shared_base, shared};
 ghost use Rattle.store_versions.specs.Laws.{BasesAreSeen, BasesHaveDirectories, ForgettingIsSeen, LaterDirectoriesAreFree};
 ghost use Rattle.store_versions.specs.Laws.{NamedVersionsHaveDirectories, PinsSeeTheirVersions, TablesFollowEntries};
 ghost use Rattle.store_versions.specs.Rows.{needed_rows, places_at};

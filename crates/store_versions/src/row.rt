@@ -3,9 +3,10 @@ ghost use Rattle.std.specs.Prelude.{◌≡◌, ◌<◌, ◌+◌, ◌-◌, ◌^�
 ghost use Rattle.std.specs.List.{list_any};
 ghost use Rattle.store_versions.specs.Rows.{is_before, is_seen, stands, is_row_of, is_row_below, ended};
 
+use crate::lean::LeanPin;
 use cell_values::Name;
 use chunk_map::Directory;
-use lean_core::{LeanPin, is_same};
+use plan_changes::is_same;
 
 /// A version of an array. It is seen at the places from `made` on that are below `gone`.
 #[derive(Drop)]

@@ -8,10 +8,11 @@ ghost use Rattle.store_versions.specs.Seen.{seen};
 ghost use Rattle.store_versions.specs.Versions.{directory_of};
 
 use crate::first::first_rows;
+use crate::lean::LeanPin;
 use crate::{ReadyVersion, Room, VersionRow};
 use cell_values::{List, Memory, Name};
 use chunk_map::Directory;
-use lean_core::{Change, LeanPin, Names};
+use plan_changes::{Change, Names};
 
 /// The versions that the present or an open pin may see, in the order in which they came.
 #[derive(Drop)]

@@ -8,24 +8,13 @@ fn number_in(word: &str) -> usize {
     word.parse::<usize>().unwrap_or(0)
 }
 
-fn push_pages(file: &mut Bytes, count: usize) -> Result<(), Memory> {
-    let page = [0u8; 4096];
-    for _ in 0..count {
-        file.extend(&page)?;
-    }
-    Ok(())
-}
-
 /// So many pages of zeros.
 pub(crate) fn zeros(alloc: Global, count: &str) -> Result<Bytes, Memory> {
     let mut file = Bytes::new(alloc);
-    match push_pages(&mut file, number_in(count)) {
-        Ok(()) => Ok(file),
-        Err(Memory) => {
-            drop(file);
-            Err(Memory)
-        }
+    for _ in 0..number_in(count) {
+        file.extend(&[0u8; 4096])?;
     }
+    Ok(file)
 }
 
 /// Puts the bytes that pairs of hexadecimal digits stand for at a place of a file, as many as it has there.

@@ -8,14 +8,6 @@ fn byte_in(word: &str) -> u8 {
     word.parse::<u8>().unwrap_or(0)
 }
 
-/// Sets the byte at a place, if there is one.
-fn set(bytes: &mut Bytes, place: i64, byte: u8) {
-    let place = place.unsigned_abs() as usize;
-    if place < bytes.len() {
-        bytes.set(place, byte);
-    }
-}
-
 /// Changes bytes as a word says.
 fn change(bytes: &mut Bytes, word: &str) -> Result<(), Memory> {
     if let Some(count) = word.strip_prefix("..") {
@@ -26,7 +18,10 @@ fn change(bytes: &mut Bytes, word: &str) -> Result<(), Memory> {
         return bytes.push(byte_in(byte));
     }
     let (place, byte) = place_in(word);
-    set(bytes, place, byte_in(byte));
+    let place = place.unsigned_abs() as usize;
+    if place < bytes.len() {
+        bytes.set(place, byte_in(byte));
+    }
     Ok(())
 }
 
@@ -41,34 +36,17 @@ pub(crate) fn change_all(bytes: &mut Bytes, words: &[&str]) -> Result<(), Memory
 /// The bytes as some words change them.
 pub(crate) fn changed(bytes: &Bytes, words: &[&str]) -> Result<Bytes, Memory> {
     let mut copy = bytes.copy()?;
-    match change_all(&mut copy, words) {
-        Ok(()) => Ok(copy),
-        Err(Memory) => {
-            drop(copy);
-            Err(Memory)
-        }
-    }
+    change_all(&mut copy, words)?;
+    Ok(copy)
 }
 
-/// The name `A0000` with this number in it, behind its length.
-fn name_of(out: &Bytes, number: u32) -> Result<String, Memory> {
-    Ok(format!(in out.allocator(); "\u{5}A{number:04}")?)
-}
-
-/// Adds an array of that name.
+/// Adds an array of the name `A0000` with this number in it, behind the name's length.
 fn push_array(out: &mut Bytes, number: u32, array: &[u8]) -> Result<(), Memory> {
-    let name = name_of(out, number)?;
+    let name = format!(in out.allocator(); "\u{5}A{number:04}")?;
     let told = out.extend(name.as_bytes());
     drop(name);
     told?;
     out.extend(array)
-}
-
-fn push_arrays(out: &mut Bytes, count: u32, array: &[u8]) -> Result<(), Memory> {
-    for number in 0..count {
-        push_array(out, number, array)?;
-    }
-    Ok(())
 }
 
 /// The bytes of so many arrays, each as the one of a catalogue whose array has a name of one letter.
@@ -76,11 +54,8 @@ pub(crate) fn many(bytes: &Bytes, count: &str) -> Result<Bytes, Memory> {
     let (_, array) = bytes.as_slice().split_at(bytes.len().min(6));
     let count = count.parse::<u32>().unwrap_or(0);
     let mut more = Bytes::from_slice(bytes.allocator(), &count.to_le_bytes())?;
-    match push_arrays(&mut more, count, array) {
-        Ok(()) => Ok(more),
-        Err(Memory) => {
-            drop(more);
-            Err(Memory)
-        }
+    for number in 0..count {
+        push_array(&mut more, number, array)?;
     }
+    Ok(more)
 }

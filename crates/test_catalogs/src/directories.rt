@@ -2,7 +2,7 @@
 ghost use Rattle.std.specs.Prelude.{◌≤◌, IfOk};
 ghost use Rattle.chunk_map.specs.Entries.{AreRising};
 
-use crate::catalogs::{push_spelling, push_wrong};
+use crate::catalogs::push_spelling;
 use cell_values::Memory;
 use chunk_map::{BadDirectory, Directory, decode_directory, encode_directory, replaced};
 use std::alloc::Global;
@@ -29,23 +29,20 @@ fn directory_in(alloc: Global, dims: u32, bytes: &[u8]) -> Result<Directory, Bad
 
 fn push_bad(out: &mut String, bad: BadDirectory) -> Result<(), Memory> {
     match bad {
-        BadDirectory::At { at } => push_wrong(out, at),
+        BadDirectory::At { at } => Ok(write!(out, "wrong at {at}")?),
         BadDirectory::Memory => push_word(out, "no memory"),
     }
-}
-
-fn push_spelled(out: &mut String, dims: u32, directory: &Directory) -> Result<(), Memory> {
-    push_spelling(out, encode_directory(*out.allocator(), directory, dims)?)
 }
 
 /// Adds the spelling of the directory that bytes are read as, or the place of their first wrong item.
 pub(crate) fn push_directory(out: &mut String, dims: &str, bytes: &[u8]) -> Result<(), Memory> {
     let dims = dims_in(dims);
-    match directory_in(*out.allocator(), dims, bytes) {
+    let alloc = *out.allocator();
+    match directory_in(alloc, dims, bytes) {
         Ok(directory) => {
-            let told = push_spelled(out, dims, &directory);
+            let spelling = encode_directory(alloc, &directory, dims);
             drop(directory);
-            told
+            push_spelling(out, spelling?)
         }
         Err(bad) => push_bad(out, bad),
     }
@@ -56,9 +53,9 @@ fn push_both(out: &mut String, dims: u32, old: &Directory, fresh: &Directory) ->
     requires fresh { AreRising fresh.now.entries }
 {
     let new = replaced(old, fresh.entries.as_slice())?;
-    let told = push_spelled(out, dims, &new);
+    let spelling = encode_directory(*out.allocator(), &new, dims);
     drop(new);
-    told
+    push_spelling(out, spelling?)
 }
 
 fn push_over(out: &mut String, dims: u32, old: &Directory, fresh: &[u8]) -> Result<(), Memory>

@@ -9,40 +9,29 @@ use crate::opens::push_opened;
 use cell_values::{Bytes, Memory};
 use test_kit::{begin_answer, words_of};
 
-/// Adds what the file opens as where it is changed by some words.
-fn push_open(out: &mut String, file: &Bytes, words: &[&str]) -> Result<(), Memory> {
-    push_opened(out, changed(file, words)?)
-}
-
-fn set_zeros(file: &mut Bytes, count: &str) -> Result<(), Memory> {
-    *file = zeros(file.allocator(), count)?;
-    Ok(())
-}
-
 /// Does what some words say.
 fn push_answer(out: &mut String, file: &mut Bytes, words: &[&str]) -> Result<(), Memory> {
     match words {
-        ["pages", count] => set_zeros(file, count),
+        ["pages", count] => {
+            *file = zeros(file.allocator(), count)?;
+            Ok(())
+        }
         ["at", place, digits] => {
             put(file, place, digits);
             Ok(())
         }
-        ["open", changes @ ..] => push_open(out, file, changes),
+        ["open", changes @ ..] => push_opened(out, changed(file, changes)?),
         _ => Ok(()),
     }
-}
-
-fn push_line(out: &mut String, file: &mut Bytes, line: &str) -> Result<(), Memory> {
-    let words = words_of(*out.allocator(), line)?;
-    let told = push_answer(out, file, words.as_slice());
-    drop(words);
-    told
 }
 
 fn push_lines(out: &mut String, file: &mut Bytes, text: &str) -> Result<(), Memory> {
     for line in text.lines() {
         if begin_answer(out, line)? {
-            push_line(out, file, line)?;
+            let words = words_of(*out.allocator(), line)?;
+            let told = push_answer(out, file, words.as_slice());
+            drop(words);
+            told?;
         }
     }
     Ok(())

@@ -62,20 +62,13 @@ fn push_table(out: &mut String, title: &str, text: &str) -> Result<(), Memory> {
     }
 }
 
-/// Adds the title of a table, and what comes of its lines.
-fn push_part(out: &mut String, part: &str) -> Result<(), Memory> {
-    match part.split_once('\n') {
-        Some((title, text)) => {
-            push_words(out, &["### ", title, "\n"])?;
-            push_table(out, title, text)
-        }
-        None => Ok(()),
-    }
-}
-
+/// Adds the title of each table, and what comes of its lines.
 fn push_parts(out: &mut String, text: &str) -> Result<(), Memory> {
     for part in text.split("### ") {
-        push_part(out, part)?;
+        if let Some((title, lines)) = part.split_once('\n') {
+            push_words(out, &["### ", title, "\n"])?;
+            push_table(out, title, lines)?;
+        }
     }
     Ok(())
 }

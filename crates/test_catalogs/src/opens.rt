@@ -9,16 +9,8 @@ use file_meaning::Found;
 use file_reading::read_found;
 use page_chain::OpenCause;
 use page_file::PageFile;
-use test_files::{disk_of, open};
-use test_kit::{push_count, push_counts, push_text, push_word};
+use test_kit::{disk_of, open, push_counts, push_text, push_word};
 use version_catalog::{BlobAt, CatalogArray};
-
-/// Adds a word, a number and a word.
-fn push_between(out: &mut String, before: &str, number: u64, behind: &str) -> Result<(), Memory> {
-    push_word(out, before)?;
-    push_count(out, number)?;
-    push_word(out, behind)
-}
 
 /// Adds pages, and ends the line.
 fn push_pages(out: &mut String, pages: &List<u32>) -> Result<(), Memory> {
@@ -30,8 +22,11 @@ fn push_pages(out: &mut String, pages: &List<u32>) -> Result<(), Memory> {
 fn push_entry(out: &mut String, entry: &DirEntry) -> Result<(), Memory> {
     push_word(out, "  chunk ")?;
     push_counts(out, entry.at.as_slice())?;
-    push_between(out, ": ", entry.length, " bytes")?;
-    push_between(out, ", commit ", entry.birth, ", pages")?;
+    write!(
+        out,
+        ": {} bytes, commit {}, pages",
+        entry.length, entry.birth
+    )?;
     push_pages(out, &entry.pages)
 }
 
@@ -41,8 +36,7 @@ fn push_version(
     at: &BlobAt,
     directory: &Directory,
 ) -> Result<(), Memory> {
-    push_between(out, " version ", u64::from(number), ": ")?;
-    push_between(out, "", at.length, " bytes, pages")?;
+    write!(out, " version {number}: {} bytes, pages", at.length)?;
     push_pages(out, &at.pages)?;
     for entry in directory.entries.as_slice() {
         push_entry(out, entry)?;
@@ -50,14 +44,10 @@ fn push_version(
     Ok(())
 }
 
-fn push_front(out: &mut String, array: &CatalogArray) -> Result<(), Memory> {
+fn push_array(out: &mut String, array: &CatalogArray, row: &List<Directory>) -> Result<(), Memory> {
     push_word(out, "array ")?;
     push_text(out, array.entry.name.as_slice())?;
-    push_between(out, ", next ", u64::from(array.entry.next), "\n")
-}
-
-fn push_array(out: &mut String, array: &CatalogArray, row: &List<Directory>) -> Result<(), Memory> {
-    push_front(out, array)?;
+    write!(out, ", next {}\n", array.entry.next)?;
     for (place, number) in array.entry.versions.as_slice().iter().enumerate() {
         if let (Some(at), Some(directory)) = (array.directories.get(place), row.get(place)) {
             push_version(out, *number, at, directory)?;
@@ -66,18 +56,13 @@ fn push_array(out: &mut String, array: &CatalogArray, row: &List<Directory>) -> 
     Ok(())
 }
 
-fn push_records(out: &mut String, logged: &[List<u32>]) -> Result<(), Memory> {
-    for pages in logged {
-        push_word(out, "record in pages")?;
-        push_pages(out, pages)?;
-    }
-    Ok(())
-}
-
 fn push_found(out: &mut String, found: &Found) -> Result<(), Memory> {
     push_word(out, "catalogue in pages")?;
     push_pages(out, &found.chain)?;
-    push_records(out, found.logged.as_slice())?;
+    for pages in found.logged.as_slice() {
+        push_word(out, "record in pages")?;
+        push_pages(out, pages)?;
+    }
     for (place, array) in found.catalog.arrays.as_slice().iter().enumerate() {
         if let Some(row) = found.directories.get(place) {
             push_array(out, array, row)?;
@@ -105,7 +90,11 @@ fn push_file<D: Disk>(out: &mut String, file: &mut PageFile<D>) -> Result<(), Me
 
 fn push_disk<D: Disk + Drop>(out: &mut String, disk: D) -> Result<(), Memory> {
     match open(disk) {
-        Ok(mut file) => push_file(out, &mut file),
+        Ok(mut file) => {
+            let told = push_file(out, &mut file);
+            drop(file);
+            told
+        }
         Err((cause, _)) => push_cause(out, cause),
     }
 }

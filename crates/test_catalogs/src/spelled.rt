@@ -7,34 +7,26 @@
 //! allows a record, `after 040141` the catalogue after it, and `replace 2 0000` the directory with the entries of another
 //! one. `many 1024` makes so many arrays of the catalogue's first one, under names that rise.
 
-use crate::catalogs::{push_after, push_allowed, push_catalog, push_cuts, push_record};
+use crate::catalogs::{push_by, push_catalog, push_cuts, push_record};
 use crate::digits::{change_all, changed, many};
 use crate::directories::{push_directory, push_replaced};
 use cell_values::{Bytes, Memory};
 use test_kit::{begin_answer, bytes_in, push_word, words_of};
 
-fn push_changed_catalog(out: &mut String, bytes: &Bytes, changes: &[&str]) -> Result<(), Memory> {
-    let changed = changed(bytes, changes)?;
-    let told = push_catalog(out, changed.as_slice());
-    drop(changed);
-    told
-}
-
-fn push_changed_record(out: &mut String, bytes: &Bytes, changes: &[&str]) -> Result<(), Memory> {
-    let changed = changed(bytes, changes)?;
-    let told = push_record(out, changed.as_slice());
-    drop(changed);
-    told
-}
-
-fn push_changed_directory(
+/// Adds the spelling of what the bytes are read as where they are changed: as a catalogue, as a record, or as a directory of
+/// this number of dimensions.
+fn push_changed(
     out: &mut String,
-    dims: &str,
     bytes: &Bytes,
+    form: &str,
     changes: &[&str],
 ) -> Result<(), Memory> {
     let changed = changed(bytes, changes)?;
-    let told = push_directory(out, dims, changed.as_slice());
+    let told = match form {
+        "catalogue" => push_catalog(out, changed.as_slice()),
+        "record" => push_record(out, changed.as_slice()),
+        dims => push_directory(out, dims, changed.as_slice()),
+    };
     drop(changed);
     told
 }
@@ -43,8 +35,8 @@ fn push_changed_directory(
 fn push_plain(out: &mut String, bytes: &[u8], words: &[&str]) -> Result<(), Memory> {
     match words {
         ["cuts"] => push_cuts(out, bytes),
-        ["allows", digits] => push_allowed(out, bytes, digits),
-        ["after", digits] => push_after(out, bytes, digits),
+        ["allows", digits] => push_by(out, bytes, digits, false),
+        ["after", digits] => push_by(out, bytes, digits, true),
         [_, dims, digits] => push_replaced(out, dims, bytes, digits),
         _ => Ok(()),
     }
@@ -53,28 +45,24 @@ fn push_plain(out: &mut String, bytes: &[u8], words: &[&str]) -> Result<(), Memo
 /// Adds the answer to the words of a line.
 fn push_told(out: &mut String, bytes: &Bytes, words: &[&str]) -> Result<(), Memory> {
     match words {
-        ["catalogue", changes @ ..] => push_changed_catalog(out, bytes, changes),
-        ["record", changes @ ..] => push_changed_record(out, bytes, changes),
-        ["directory", dims, changes @ ..] => push_changed_directory(out, dims, bytes, changes),
+        ["catalogue", changes @ ..] => push_changed(out, bytes, "catalogue", changes),
+        ["record", changes @ ..] => push_changed(out, bytes, "record", changes),
+        ["directory", dims, changes @ ..] => push_changed(out, bytes, dims, changes),
         words => push_plain(out, bytes.as_slice(), words),
     }
-}
-
-fn set_bytes(bytes: &mut Bytes, digits: &str, changes: &[&str]) -> Result<(), Memory> {
-    *bytes = bytes_in(bytes.allocator(), digits)?;
-    change_all(bytes, changes)
-}
-
-fn set_many(bytes: &mut Bytes, count: &str) -> Result<(), Memory> {
-    *bytes = many(bytes, count)?;
-    Ok(())
 }
 
 /// Adds the answer to the words of a line, or says which bytes there are.
 fn push_answer(out: &mut String, bytes: &mut Bytes, words: &[&str]) -> Result<(), Memory> {
     match words {
-        ["bytes", digits, changes @ ..] => set_bytes(bytes, digits, changes),
-        ["many", count] => set_many(bytes, count),
+        ["bytes", digits, changes @ ..] => {
+            *bytes = bytes_in(bytes.allocator(), digits)?;
+            change_all(bytes, changes)
+        }
+        ["many", count] => {
+            *bytes = many(bytes, count)?;
+            Ok(())
+        }
         words => {
             push_told(out, bytes, words)?;
             push_word(out, "\n")
@@ -82,17 +70,13 @@ fn push_answer(out: &mut String, bytes: &mut Bytes, words: &[&str]) -> Result<()
     }
 }
 
-fn push_line(out: &mut String, bytes: &mut Bytes, line: &str) -> Result<(), Memory> {
-    let words = words_of(*out.allocator(), line)?;
-    let told = push_answer(out, bytes, words.as_slice());
-    drop(words);
-    told
-}
-
 fn push_lines(out: &mut String, bytes: &mut Bytes, text: &str) -> Result<(), Memory> {
     for line in text.lines() {
         if begin_answer(out, line)? {
-            push_line(out, bytes, line)?;
+            let words = words_of(*out.allocator(), line)?;
+            let told = push_answer(out, bytes, words.as_slice());
+            drop(words);
+            told?;
         }
     }
     Ok(())

@@ -7,36 +7,23 @@ ghost use Rattle.event_core.specs.Worked.{worked_base};
 
 use crate::entries::{entries, first_entries};
 use crate::tell::{push_core, push_names, push_numbers};
-use cell_values::{List, Memory};
+use cell_values::Memory;
 use event_core::{Core, Entry, Used, fresh_pages, run_events, step};
-use logical_plan::Names;
 use plan_changes::{Change, changed_names};
-use test_kit::{push_count, push_word};
-
-fn push_fresh(out: &mut String, pages: List<u32>) -> Result<(), Memory> {
-    let told = push_numbers(out, "a commit, fresh pages", &pages);
-    drop(pages);
-    told
-}
-
-fn push_left(out: &mut String, names: Names) -> Result<(), Memory> {
-    let told = push_names(out, &names);
-    drop(names);
-    told
-}
+use test_kit::push_word;
 
 /// Adds the fresh pages of a commit, and the names that it leaves.
 fn push_change(out: &mut String, core: &Core, change: &Change, used: &Used) -> Result<(), Memory>
     requires { IsTrue (names_allow core.now.names change.now) }
 {
-    push_fresh(out, fresh_pages(core, change, used)?)?;
-    push_left(out, changed_names(core.names.copy()?, change)?)
-}
-
-fn push_session(out: &mut String, session: u32, word: &str) -> Result<(), Memory> {
-    push_word(out, "session ")?;
-    push_count(out, u64::from(session))?;
-    push_word(out, word)
+    let pages = fresh_pages(core, change, used)?;
+    let told = push_numbers(out, "a commit, fresh pages", &pages);
+    drop(pages);
+    told?;
+    let left = changed_names(core.names.copy()?, change)?;
+    let told = push_names(out, &left);
+    drop(left);
+    told
 }
 
 /// Adds what an entry is.
@@ -44,8 +31,8 @@ fn push_entry(out: &mut String, core: &Core, entry: &Entry) -> Result<(), Memory
     requires { IsTrue (core_allows core.now entry.now) }
 {
     match entry {
-        Entry::Pin { session } => push_session(out, *session, " pins\n"),
-        Entry::Unpin { session } => push_session(out, *session, " unpins\n"),
+        Entry::Pin { session } => Ok(write!(out, "session {session} pins\n")?),
+        Entry::Unpin { session } => Ok(write!(out, "session {session} unpins\n")?),
         Entry::Commit { change, used, .. } => push_change(out, core, change, used),
         Entry::Reap => push_word(out, "a reap\n"),
     }

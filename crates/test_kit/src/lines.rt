@@ -5,23 +5,14 @@ use cell_values::{Bytes, Memory};
 use std::alloc::Global;
 use std::str::from_utf8;
 
-fn number_of(digits: &[u8]) -> u32 {
-    let mut number = 0u32;
-    for digit in digits {
-        number = number
-            .saturating_mul(10)
-            .saturating_add(u32::from(digit.wrapping_sub(b'0')));
-    }
-    number
-}
-
 /// Adds what braces stand for, by the number and the text between them.
 fn write_repeated(text: &mut Bytes, part: &[u8]) -> Result<(), Memory> {
     let Some(space) = part.iter().position(|byte| *byte == b' ') else {
         return Ok(());
     };
     let (digits, item) = part.split_at(space);
-    for _ in 0..number_of(digits) {
+    let count = from_utf8(digits).unwrap_or("");
+    for _ in 0..count.parse::<u32>().unwrap_or(0) {
         text.extend(&item[1..])?;
     }
     Ok(())

@@ -38,15 +38,10 @@ pub fn push_integer(out: &mut String, number: i64) -> Result<(), Memory> {
     Ok(write!(out, "{number}")?)
 }
 
-/// Adds a byte as two hexadecimal digits.
-fn push_digits(out: &mut String, byte: u8) -> Result<(), Memory> {
-    Ok(write!(out, "{byte:02x}")?)
-}
-
 /// Adds bytes, each as two hexadecimal digits.
 pub fn push_hex(out: &mut String, bytes: &[u8]) -> Result<(), Memory> {
     for byte in bytes {
-        push_digits(out, *byte)?;
+        write!(out, "{byte:02x}")?;
     }
     Ok(())
 }
@@ -55,26 +50,16 @@ pub fn push_hex(out: &mut String, bytes: &[u8]) -> Result<(), Memory> {
 fn push_byte(out: &mut String, byte: u8) -> Result<(), Memory> {
     match byte {
         b' '..=b'~' => Ok(out.push(byte as char)?),
-        _ => {
-            push_word(out, "^")?;
-            push_digits(out, byte)
-        }
+        _ => Ok(write!(out, "^{byte:02x}")?),
     }
-}
-
-/// Adds a byte that a text has so often.
-fn push_repeated(out: &mut String, count: usize, byte: u8) -> Result<(), Memory> {
-    push_word(out, "{")?;
-    push_count(out, count as u64)?;
-    push_word(out, " ")?;
-    push_byte(out, byte)?;
-    push_word(out, "}")
 }
 
 /// Adds a text: more than 64 bytes of one kind as `{127 x}`.
 pub fn push_text(out: &mut String, bytes: &[u8]) -> Result<(), Memory> {
     if let Some(byte) = repeated(bytes) {
-        return push_repeated(out, bytes.len(), byte);
+        write!(out, "{{{} ", bytes.len())?;
+        push_byte(out, byte)?;
+        return push_word(out, "}");
     }
     for byte in bytes {
         push_byte(out, *byte)?;
@@ -91,9 +76,7 @@ pub fn push_given(out: &mut String, text: Bytes) -> Result<(), Memory> {
 
 /// Adds two numbers, as `3-5`.
 pub fn push_range(out: &mut String, start: u64, end: u64) -> Result<(), Memory> {
-    push_count(out, start)?;
-    push_word(out, "-")?;
-    push_count(out, end)
+    Ok(write!(out, "{start}-{end}")?)
 }
 
 /// Adds a text in quotes.
@@ -120,8 +103,7 @@ pub fn truth_word(truth: bool) -> &'static str {
 
 /// Adds a code, as `?7`.
 pub fn push_code(out: &mut String, number: u8) -> Result<(), Memory> {
-    push_word(out, "?")?;
-    push_count(out, u64::from(number))
+    Ok(write!(out, "?{number}")?)
 }
 
 /// Adds a value: a text in quotes, else the word that stands for it.
@@ -136,6 +118,13 @@ pub fn push_datum(out: &mut String, value: &Datum) -> Result<(), Memory> {
     }
 }
 
+/// Adds a value, and lets it go.
+pub fn push_value(out: &mut String, value: Datum) -> Result<(), Memory> {
+    let told = push_datum(out, &value);
+    drop(value);
+    told
+}
+
 /// Adds a coordinate, as `(-1,2)`.
 pub fn push_coord(out: &mut String, at: &Coord) -> Result<(), Memory> {
     let mut comma = "(";
@@ -147,19 +136,16 @@ pub fn push_coord(out: &mut String, at: &Coord) -> Result<(), Memory> {
     push_word(out, ")")
 }
 
-/// Adds values, each behind a space.
-fn push_values(out: &mut String, values: &[Datum]) -> Result<(), Memory> {
-    for value in values {
-        push_word(out, " ")?;
-        push_datum(out, value)?;
-    }
-    Ok(())
-}
-
 /// Adds the values of a cell, each behind a space, or its doubt.
 pub fn push_cell(out: &mut String, cell: &Cell) -> Result<(), Memory> {
     match cell {
-        Cell::Full(values) => push_values(out, values.as_slice()),
+        Cell::Full(values) => {
+            for value in values.as_slice() {
+                push_word(out, " ")?;
+                push_datum(out, value)?;
+            }
+            Ok(())
+        }
         Cell::Doubt(kind) => push_words(out, &[" doubt(", fault_word(*kind), ")"]),
     }
 }
@@ -182,13 +168,6 @@ pub fn push_number(out: &mut String, at: &ChunkAt) -> Result<(), Memory> {
     push_word(out, "]")
 }
 
-/// Adds the cell at a position.
-fn push_placed(out: &mut String, position: u64, cell: &Cell) -> Result<(), Memory> {
-    push_word(out, ", at ")?;
-    push_count(out, position)?;
-    push_cell(out, cell)
-}
-
 /// Adds the number of a chunk, and the cell at each of its positions.
 pub fn push_chunk(
     out: &mut String,
@@ -199,7 +178,8 @@ pub fn push_chunk(
     push_word(out, "chunk ")?;
     push_number(out, at)?;
     for (position, cell) in positions.iter().zip(cells) {
-        push_placed(out, *position, cell)?;
+        write!(out, ", at {position}")?;
+        push_cell(out, cell)?;
     }
     push_word(out, "\n")
 }

@@ -3,9 +3,9 @@
 //!
 //! Behind `#full `, `#last ` and `#none ` a statement is checked over other arrays: as many as there may be, and an array with a number
 //! for one more version or for none.
-ghost use Rattle.check_queries.specs.Arrays.{AreValid};
+ghost use Rattle.afl_types.specs.Arrays.{AreValid};
 
-use crate::stored::{Arrays, names};
+use crate::stored::names;
 use crate::told::push_typed;
 use afl_parser::parse;
 use afl_trees::{Tree, let_go_tree};
@@ -64,34 +64,30 @@ fn push_statement(out: &mut String, text: &[u8], names: &Names) -> Result<(), Me
     }
 }
 
-/// Adds what checking answers to a statement over some of the arrays.
-fn push_over(out: &mut String, text: &[u8], arrays: Arrays) -> Result<(), Memory> {
-    match names(*out.allocator(), arrays) {
+/// The statement of a line, the number of the next version of `A`, and how many arrays stand beside the few.
+fn statement_in(line: &[u8]) -> (u32, usize, &[u8]) {
+    if let Some(text) = line.strip_prefix(b"#full ".as_slice()) {
+        (7, 1_019, text)
+    } else if let Some(text) = line.strip_prefix(b"#last ".as_slice()) {
+        (65_535, 0, text)
+    } else if let Some(text) = line.strip_prefix(b"#none ".as_slice()) {
+        (65_536, 0, text)
+    } else {
+        (7, 0, line)
+    }
+}
+
+/// Adds what checking answers to the statement of a line.
+pub(crate) fn push_checked_line(out: &mut String, line: &[u8]) -> Result<(), Memory> {
+    let (next, others, text) = statement_in(line);
+    let told = match names(*out.allocator(), next, others) {
         Some(names) => {
             let told = push_statement(out, text, &names);
             drop(names);
             told
         }
         None => push_word(out, "no arrays"),
-    }
-}
-
-/// The statement of a line, and the arrays that it is checked over.
-fn statement_in(line: &[u8]) -> (Arrays, &[u8]) {
-    if let Some(text) = line.strip_prefix(b"#full ".as_slice()) {
-        (Arrays::Full, text)
-    } else if let Some(text) = line.strip_prefix(b"#last ".as_slice()) {
-        (Arrays::OneVersion, text)
-    } else if let Some(text) = line.strip_prefix(b"#none ".as_slice()) {
-        (Arrays::NoVersion, text)
-    } else {
-        (Arrays::Few, line)
-    }
-}
-
-/// Adds what checking answers to the statement of a line.
-pub(crate) fn push_checked_line(out: &mut String, line: &[u8]) -> Result<(), Memory> {
-    let (arrays, text) = statement_in(line);
-    push_over(out, text, arrays)?;
+    };
+    told?;
     push_word(out, "\n")
 }

@@ -43,27 +43,18 @@ fn table_behind(table: Table, title: &str) -> Table {
     }
 }
 
-/// Adds a title. The table behind it is the answer.
-fn push_title(out: &mut String, table: Table, title: &str) -> Result<Table, Memory> {
-    push_words(out, &[title, "\n"])?;
-    Ok(table_behind(table, title))
-}
-
-/// Adds what is told of a line of a table.
-fn push_answer(out: &mut String, table: Table, line: &[u8]) -> Result<(), Memory> {
-    match table {
-        Table::Texts => push_text_line(out, from_utf8(line).unwrap_or("no text")),
-        Table::Parsing => push_parsed_line(out, line),
-        Table::Checking => push_checked_line(out, line),
-    }
-}
-
-/// Adds what is told of a line. The table behind it is the answer.
+/// Adds a title, or what is told of another line. The table behind it is the answer.
 fn push_line(out: &mut String, table: Table, line: &[u8]) -> Result<Table, Memory> {
     if line.starts_with(b"##".as_slice()) {
-        return push_title(out, table, from_utf8(line).unwrap_or("##"));
+        let title = from_utf8(line).unwrap_or("##");
+        push_words(out, &[title, "\n"])?;
+        return Ok(table_behind(table, title));
     }
-    push_answer(out, table, line)?;
+    match table {
+        Table::Texts => push_text_line(out, from_utf8(line).unwrap_or("no text"))?,
+        Table::Parsing => push_parsed_line(out, line)?,
+        Table::Checking => push_checked_line(out, line)?,
+    }
     Ok(table)
 }
 

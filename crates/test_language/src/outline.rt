@@ -2,29 +2,14 @@
 
 use afl_trees::{Node, Tree};
 use cell_values::Memory;
-use test_kit::{push_code, push_integer, push_range, push_word, truth_word};
+use test_kit::{push_code, push_integer, push_word, truth_word};
 
-fn write_bytes(bytes: &[u8], out: &mut String) -> Result<(), Memory> {
+fn write_behind(word: &str, bytes: &[u8], out: &mut String) -> Result<(), Memory> {
+    push_word(out, word)?;
     for byte in bytes {
         out.push(*byte as char)?;
     }
     Ok(())
-}
-
-fn write_behind(word: &str, bytes: &[u8], out: &mut String) -> Result<(), Memory> {
-    push_word(out, word)?;
-    write_bytes(bytes, out)
-}
-
-fn write_text(bytes: &[u8], out: &mut String) -> Result<(), Memory> {
-    write_behind("'", bytes, out)?;
-    push_word(out, "'")
-}
-
-fn write_version(name: &[u8], number: i64, out: &mut String) -> Result<(), Memory> {
-    write_bytes(name, out)?;
-    push_word(out, "@")?;
-    push_integer(out, number)
 }
 
 /// Adds a node that has no parts.
@@ -32,12 +17,18 @@ fn write_leaf(node: &Node, out: &mut String) -> Result<(), Memory> {
     match node {
         Node::Create(name, _) => write_behind("create ", name.as_slice(), out),
         Node::Number(n) => push_integer(out, *n),
-        Node::Text(bytes) => write_text(bytes.as_slice(), out),
+        Node::Text(bytes) => {
+            write_behind("'", bytes.as_slice(), out)?;
+            push_word(out, "'")
+        }
         Node::Truth(truth) => push_word(out, truth_word(*truth)),
         Node::Null => push_word(out, "null"),
         Node::Missing(code) => push_code(out, code.number()),
-        Node::Ref(name) => write_bytes(name.as_slice(), out),
-        Node::Version(name, number) => write_version(name.as_slice(), *number, out),
+        Node::Ref(name) => write_behind("", name.as_slice(), out),
+        Node::Version(name, number) => {
+            write_behind("", name.as_slice(), out)?;
+            Ok(write!(out, "@{number}")?)
+        }
         Node::Schema(_) => push_word(out, "schema"),
         Node::Star => push_word(out, "*"),
         _ => Ok(()),
@@ -57,15 +48,13 @@ fn write_front(node: &Node, out: &mut String) -> Result<(), Memory> {
     }
 }
 
-fn write_name(name: &[u8], out: &mut String) -> Result<(), Memory> {
-    write_behind(" ", name, out)?;
-    push_word(out, ")")
-}
-
 /// Adds what stands behind the last part of a node.
 fn write_end(node: &Node, out: &mut String) -> Result<(), Memory> {
     match node {
-        Node::As(_, name) => write_name(name.as_slice(), out),
+        Node::As(_, name) => {
+            write_behind(" ", name.as_slice(), out)?;
+            push_word(out, ")")
+        }
         Node::Call(..) | Node::Not(_) | Node::Minus(_) | Node::Binary(..) => push_word(out, ")"),
         Node::Group(_) => push_word(out, "]"),
         _ => Ok(()),
@@ -74,8 +63,7 @@ fn write_end(node: &Node, out: &mut String) -> Result<(), Memory> {
 
 fn write_span(tree: &Tree, out: &mut String) -> Result<(), Memory> {
     write_end(&tree.node, out)?;
-    push_word(out, ":")?;
-    push_range(out, u64::from(tree.span.start), u64::from(tree.span.end))
+    Ok(write!(out, ":{}-{}", tree.span.start, tree.span.end)?)
 }
 
 fn write_start(before: &str, tree: &Tree, out: &mut String) -> Result<(), Memory> {

@@ -7,7 +7,6 @@ use crate::outline::write_outline;
 use afl_parser::{ParseFault, parse};
 use afl_trees::{Tree, let_go_tree, print};
 use cell_values::Memory;
-use std::alloc::Global;
 use std::str::from_utf8;
 use test_kit::{push_word, text_of};
 
@@ -33,26 +32,28 @@ fn form_of(line: &[u8]) -> (Form, &[u8]) {
     }
 }
 
-/// Whether a copy of the tree is printed as the tree is.
-fn is_copied(alloc: Global, tree: &Tree, printed: &[u8]) -> Result<bool, Memory> {
-    let copy = tree.copy()?;
-    let again = print(alloc, &copy);
-    let_go_tree(copy);
-    Ok(again?.as_slice() == printed)
-}
-
-fn push_copied(out: &mut String, tree: &Tree, printed: &[u8]) -> Result<(), Memory> {
-    if is_copied(*out.allocator(), tree, printed)? {
-        push_word(out, from_utf8(printed).unwrap_or("no text"))
-    } else {
-        push_word(out, "another copy")
-    }
+/// Adds how a tree is printed, if its copy is printed so.
+fn push_compared(out: &mut String, tree: &Tree, of_copy: &[u8]) -> Result<(), Memory> {
+    let printed = print(*out.allocator(), tree)?;
+    let is_copied = printed.as_slice() == of_copy;
+    drop(printed);
+    push_word(
+        out,
+        if is_copied {
+            from_utf8(of_copy).unwrap_or("no text")
+        } else {
+            "another copy"
+        },
+    )
 }
 
 fn push_printed(out: &mut String, tree: &Tree) -> Result<(), Memory> {
-    let printed = print(*out.allocator(), tree)?;
-    let told = push_copied(out, tree, printed.as_slice());
-    drop(printed);
+    let copy = tree.copy()?;
+    let of_copy = print(*out.allocator(), &copy);
+    let_go_tree(copy);
+    let of_copy = of_copy?;
+    let told = push_compared(out, tree, of_copy.as_slice());
+    drop(of_copy);
     told
 }
 
@@ -61,13 +62,6 @@ fn push_tree(out: &mut String, form: Form, tree: &Tree) -> Result<(), Memory> {
         Form::Word => push_word(out, "ok"),
         Form::Outline => write_outline("", tree, out),
         Form::Print => push_printed(out, tree),
-    }
-}
-
-fn push_fault(out: &mut String, fault: ParseFault) -> Result<(), Memory> {
-    match fault {
-        ParseFault::At { at, kind } => Ok(write!(out, "at {at}: {kind:?}")?),
-        ParseFault::Memory => push_word(out, "no memory"),
     }
 }
 
@@ -82,7 +76,8 @@ fn push_parsed(out: &mut String, form: Form, text: &[u8]) -> Result<(), Memory> 
             let_go_tree(tree);
             told
         }
-        Err(fault) => push_fault(out, fault),
+        Err(ParseFault::At { at, kind }) => Ok(write!(out, "at {at}: {kind:?}")?),
+        Err(ParseFault::Memory) => push_word(out, "no memory"),
     }
 }
 

@@ -1,13 +1,13 @@
 //! The texts of changes, listings and refusals.
 
 use crate::schemas::schema_in;
-use cell_values::{Bytes, List, Memory, Name, Schema};
+use cell_values::{List, Memory};
 use logical_plan::{NameEntry, Names};
 use result_print::{
     Refusal, list_text, ok_line, refusal_line, show_text, stored_line, versions_text,
 };
 use std::alloc::Global;
-use test_kit::{push_given, push_word};
+use test_kit::{name_of, push_given, push_word};
 
 /// The numbers of a word such as `1,3`, and none of `-`.
 fn numbers_in(alloc: Global, word: &str) -> Result<List<u32>, Memory> {
@@ -20,20 +20,17 @@ fn numbers_in(alloc: Global, word: &str) -> Result<List<u32>, Memory> {
     Ok(numbers)
 }
 
-fn name_in(alloc: Global, word: &str) -> Option<Name> {
-    Name::new(Bytes::from_slice(alloc, word.as_bytes()).ok()?)
-}
-
 /// The array of these words.
 fn entry_in(
     alloc: Global,
     name: &str,
     next: &str,
     versions: &str,
-    schema: Schema,
+    schema: &str,
 ) -> Option<NameEntry> {
-    let name = name_in(alloc, name)?;
+    let name = name_of(alloc, name.as_bytes()).ok()?;
     let versions = numbers_in(alloc, versions).ok()?;
+    let schema = schema_in(alloc, schema.as_bytes())?;
     Some(NameEntry {
         name,
         schema,
@@ -47,13 +44,7 @@ fn array_in(alloc: Global, text: &str) -> Option<NameEntry> {
     let (name, rest) = text.split_once(' ')?;
     let (next, rest) = rest.split_once(' ')?;
     let (versions, schema) = rest.split_once(' ')?;
-    entry_in(
-        alloc,
-        name,
-        next,
-        versions,
-        schema_in(alloc, schema.as_bytes())?,
-    )
+    entry_in(alloc, name, next, versions, schema)
 }
 
 fn push_entry(out: &mut String, entry: &NameEntry) -> Result<(), Memory> {
@@ -76,38 +67,28 @@ pub(crate) fn push_array(out: &mut String, text: &str) -> Result<(), Memory> {
     }
 }
 
-/// Adds the array of a text to others.
-fn push_array_in(arrays: &mut List<NameEntry>, text: &str) -> Result<(), Memory> {
-    match array_in(arrays.allocator(), text) {
-        Some(entry) => arrays.push(entry),
-        None => Ok(()),
-    }
-}
-
 /// Adds the arrays of a text, with a `|` between.
 fn push_arrays_in(arrays: &mut List<NameEntry>, text: &str) -> Result<(), Memory> {
     for part in text.split('|') {
-        push_array_in(arrays, part)?;
+        if let Some(entry) = array_in(arrays.allocator(), part) {
+            arrays.push(entry)?;
+        }
     }
     Ok(())
 }
 
-fn push_names(out: &mut String, names: &Names) -> Result<(), Memory> {
-    let text = list_text(*out.allocator(), names)?;
-    push_given(out, text)
-}
-
 /// Adds the list of the arrays of a text.
 pub(crate) fn push_list(out: &mut String, text: &str) -> Result<(), Memory> {
+    let alloc = *out.allocator();
     let mut names = Names {
-        arrays: List::new(*out.allocator()),
+        arrays: List::new(alloc),
     };
-    let told = match push_arrays_in(&mut names.arrays, text) {
-        Ok(()) => push_names(out, &names),
+    let list = match push_arrays_in(&mut names.arrays, text) {
+        Ok(()) => list_text(alloc, &names),
         Err(Memory) => Err(Memory),
     };
     drop(names);
-    told
+    push_given(out, list?)
 }
 
 fn number_of(word: &str) -> u32 {
@@ -124,21 +105,19 @@ fn plain_refusal(word: &str) -> Refusal {
     }
 }
 
-fn full(counts: &str) -> Refusal {
-    let (needed, free) = counts.split_once(' ').unwrap_or((counts, ""));
-    Refusal::Full {
-        needed: number_of(needed),
-        free: number_of(free),
-    }
-}
-
 /// The refusal of a text such as `full 3 1`.
 fn refusal_in(text: &str) -> Refusal {
     match text.split_once(' ') {
         Some(("damaged", page)) => Refusal::Damaged {
             page: number_of(page),
         },
-        Some(("full", counts)) => full(counts),
+        Some(("full", counts)) => {
+            let (needed, free) = counts.split_once(' ').unwrap_or((counts, ""));
+            Refusal::Full {
+                needed: number_of(needed),
+                free: number_of(free),
+            }
+        }
         _ => plain_refusal(text),
     }
 }

@@ -2,12 +2,12 @@
 ghost use Rattle.std.specs.Prelude.{◌≤◌, length};
 
 use afl_lexer::tokens;
-use cell_values::{Bytes, Memory, Schema, Span};
+use cell_values::{Memory, Schema};
 use schema_grammar::{
     SchemaFault, SchemaText, ShapeFault, TypeKind, meaning, print_shape, schema_text, shape,
 };
 use std::alloc::Global;
-use test_kit::{push_count, push_given, push_range, push_word, push_words};
+use test_kit::{push_given, push_word};
 
 /// The syntax tree of a text's tokens from one on, and the token behind it.
 fn read(alloc: Global, text: &[u8], from: usize) -> Result<(SchemaText, usize), ShapeFault>
@@ -46,37 +46,19 @@ fn rule_text(kind: TypeKind) -> &'static str {
     }
 }
 
-fn push_token(out: &mut String, front: &str, token: usize) -> Result<(), Memory> {
-    push_word(out, front)?;
-    push_count(out, token as u64)
-}
-
 fn push_stop(out: &mut String, fault: ShapeFault) -> Result<(), Memory> {
     match fault {
-        ShapeFault::Unexpected { token } => push_token(out, "stop at token ", token),
+        ShapeFault::Unexpected { token } => Ok(write!(out, "stop at token {token}")?),
         ShapeFault::Memory => push_word(out, "no tokens"),
     }
 }
 
-/// The text of a copy of a schema.
-fn copied_text(alloc: Global, schema: &Schema) -> Result<Bytes, Memory> {
-    let copy = schema.copy()?;
-    let text = schema_text(alloc, &copy);
-    drop(copy);
-    text
-}
-
 /// Adds a copy of a schema.
 fn push_copied(out: &mut String, schema: &Schema) -> Result<(), Memory> {
-    let text = copied_text(*out.allocator(), schema)?;
-    push_given(out, text)
-}
-
-/// Adds a rule that a schema breaks, with the place.
-fn push_rule(out: &mut String, span: Span, kind: TypeKind) -> Result<(), Memory> {
-    push_word(out, "at ")?;
-    push_range(out, u64::from(span.start), u64::from(span.end))?;
-    push_words(out, &[": ", rule_text(kind)])
+    let copy = schema.copy()?;
+    let text = schema_text(*out.allocator(), &copy);
+    drop(copy);
+    push_given(out, text?)
 }
 
 /// Adds the schema that a syntax tree means, or the first rule that it breaks with the place.
@@ -87,7 +69,10 @@ fn push_meaning(out: &mut String, text: &[u8], shape: &SchemaText) -> Result<(),
             drop(schema);
             told
         }
-        Err(SchemaFault::Rule { span, kind }) => push_rule(out, span, kind),
+        Err(SchemaFault::Rule { span, kind }) => {
+            write!(out, "at {}-{}: ", span.start, span.end)?;
+            push_word(out, rule_text(kind))
+        }
         Err(SchemaFault::Memory) => push_word(out, "no memory"),
     }
 }
@@ -101,24 +86,18 @@ pub(crate) fn push_schema(out: &mut String, text: &[u8], from: usize) -> Result<
             let told = push_meaning(out, text, &shape);
             drop(shape);
             told?;
-            push_token(out, " before token ", next)
+            Ok(write!(out, " before token {next}")?)
         }
         Err(fault) => push_stop(out, fault),
     }
 }
 
-/// The text of a copy of a syntax tree.
-fn shape_text(alloc: Global, shape: &SchemaText) -> Result<Bytes, Memory> {
-    let copy = shape.copy()?;
-    let text = print_shape(alloc, &copy);
-    drop(copy);
-    text
-}
-
 /// Adds a copy of a syntax tree.
 fn push_shape(out: &mut String, shape: &SchemaText) -> Result<(), Memory> {
-    let text = shape_text(*out.allocator(), shape)?;
-    push_given(out, text)
+    let copy = shape.copy()?;
+    let text = print_shape(*out.allocator(), &copy);
+    drop(copy);
+    push_given(out, text?)
 }
 
 /// Adds the schema as a text writes it.

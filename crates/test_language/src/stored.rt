@@ -1,7 +1,7 @@
 //! The stored arrays that statements may speak of.
 ghost use Rattle.std.specs.Prelude.{◌≡◌, ◌≤◌, length, IfOk, IfSome, OnSome};
 ghost use Rattle.cell_values.specs.Schemas.{IsValid};
-ghost use Rattle.check_queries.specs.Arrays.{AreValid};
+ghost use Rattle.afl_types.specs.Arrays.{AreValid};
 
 use afl_parser::parse;
 use afl_trees::{Node, Tree, let_go_tree};
@@ -9,39 +9,6 @@ use cell_values::{List, Memory, Name, Schema};
 use logical_plan::{NameEntry, Names};
 use schema_grammar::meaning;
 use std::alloc::Global;
-
-/// Which arrays are stored.
-#[derive(Clone, Copy)]
-pub(crate) enum Arrays {
-    /// `A` of one dimension, `B` of each type, `E` without versions, `G` whose first versions are removed, and `W` whose bounds
-    /// are as wide as bounds may be.
-    Few,
-    /// 1,019 more.
-    Full,
-    /// The few, where the next version of `A` has the last number that there is.
-    OneVersion,
-    /// The few, where there is no number for one more version of `A`.
-    NoVersion,
-}
-
-impl Arrays {
-    /// The number of the next version of `A`.
-    fn next(self) -> u32 {
-        match self {
-            Arrays::Few | Arrays::Full => 7,
-            Arrays::OneVersion => 65_535,
-            Arrays::NoVersion => 65_536,
-        }
-    }
-
-    /// How many arrays stand beside the few.
-    fn others(self) -> usize {
-        match self {
-            Arrays::Full => 1_019,
-            Arrays::Few | Arrays::OneVersion | Arrays::NoVersion => 0,
-        }
-    }
-}
 
 /// An array with copies of a name and versions.
 fn entry_of(
@@ -129,8 +96,9 @@ fn push_others(arrays: &mut List<NameEntry>, count: usize) -> Option<()>
     Some(())
 }
 
-/// Adds the stored arrays.
-fn push_arrays(arrays: &mut List<NameEntry>, which: Arrays) -> Option<()>
+/// Adds `A` of one dimension, `B` of each type, `E` without versions, `G` whose first versions are removed, `W` whose bounds
+/// are as wide as bounds may be, and others.
+fn push_arrays(arrays: &mut List<NameEntry>, next: u32, others: usize) -> Option<()>
     requires { AreValid arrays.old }
     ensures { OnSome result (AreValid arrays.new) }
 {
@@ -139,20 +107,20 @@ fn push_arrays(arrays: &mut List<NameEntry>, which: Arrays) -> Option<()>
     let e = b"create array E <v:int64>[i=0:2,2,0]";
     let g = b"create array G <v:string>[i=0:*,5,0]";
     let w = b"create array W <v:int64>[i=-4611686018427387903:*,2,0,j=0:1,2,0]";
-    push_stored(arrays, a, which.next(), &[1, 2])?;
+    push_stored(arrays, a, next, &[1, 2])?;
     push_stored(arrays, b, 7, &[1])?;
     push_stored(arrays, e, 7, &[])?;
     push_stored(arrays, g, 7, &[3, 5])?;
     push_stored(arrays, w, 7, &[6])?;
-    push_others(arrays, which.others())
+    push_others(arrays, others)
 }
 
-/// The stored arrays.
-pub(crate) fn names(alloc: Global, which: Arrays) -> Option<Names>
+/// The stored arrays, with the number of the next version of `A`, and as many others.
+pub(crate) fn names(alloc: Global, next: u32, others: usize) -> Option<Names>
     ensures { IfSome result (λ names. AreValid names.arrays) }
 {
     let mut arrays = List::new(alloc);
-    match push_arrays(&mut arrays, which) {
+    match push_arrays(&mut arrays, next, others) {
         Some(()) => Some(Names { arrays }),
         None => {
             drop(arrays);

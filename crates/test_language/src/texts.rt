@@ -20,15 +20,10 @@ use test_kit::{bytes_of, push_word, push_words, text_of};
 /// How many bytes a statement may have.
 const LIMIT: usize = 1_048_576;
 
-/// The bytes that a text without repeats stands for.
-fn bytes_in(alloc: Global, text: &Bytes) -> Result<Bytes, Memory> {
-    bytes_of(alloc, from_utf8(text.as_slice()).unwrap_or(""))
-}
-
 /// The bytes that a line stands for.
 fn script_of(alloc: Global, line: &str) -> Result<Bytes, Memory> {
     let text = text_of(alloc, line.as_bytes())?;
-    let bytes = bytes_in(alloc, &text);
+    let bytes = bytes_of(alloc, from_utf8(text.as_slice()).unwrap_or(""));
     drop(text);
     bytes
 }

@@ -5,8 +5,8 @@ ghost use Rattle.afl_lexer.specs.Tokens.{IsTokenOf};
 use afl_lexer::{
     LexFault, LexKind, Symbol, Token, TokenKind, Word, name_value, text_value, tokens,
 };
-use cell_values::{Bytes, Memory, Name};
-use test_kit::{push_code, push_count, push_integer, push_range, push_text, push_word, push_words};
+use cell_values::{Memory, Name};
+use test_kit::{push_code, push_given, push_integer, push_text, push_word, push_words};
 
 fn word_text(word: Word) -> &'static str {
     match word {
@@ -57,13 +57,6 @@ fn fault_text(kind: LexKind) -> &'static str {
     }
 }
 
-/// Adds a text in quotes, and lets it go.
-fn push_quoted(out: &mut String, text: Bytes) -> Result<(), Memory> {
-    let told = test_kit::push_quoted(out, text.as_slice());
-    drop(text);
-    told
-}
-
 /// Adds a name, and lets it go.
 fn push_name(out: &mut String, name: Name) -> Result<(), Memory> {
     let told = push_text(out, name.as_slice());
@@ -82,7 +75,11 @@ fn push_meaning(out: &mut String, text: &[u8], token: &Token) -> Result<(), Memo
         TokenKind::Code(code) => push_code(out, code),
         TokenKind::Word(word) => push_words(out, &["word ", word_text(word)]),
         TokenKind::Symbol(symbol) => push_word(out, symbol_text(symbol)),
-        TokenKind::Text => push_quoted(out, text_value(alloc, text, token)?),
+        TokenKind::Text => {
+            push_word(out, "'")?;
+            push_given(out, text_value(alloc, text, token)?)?;
+            push_word(out, "'")
+        }
     }
 }
 
@@ -92,14 +89,7 @@ fn push_token(out: &mut String, bar: &str, text: &[u8], token: &Token) -> Result
 {
     push_word(out, bar)?;
     push_meaning(out, text, token)?;
-    push_word(out, " ")?;
-    push_range(out, u64::from(token.span.start), u64::from(token.span.end))
-}
-
-fn push_fault(out: &mut String, at: u32, kind: LexKind) -> Result<(), Memory> {
-    push_word(out, "at ")?;
-    push_count(out, u64::from(at))?;
-    push_words(out, &[": ", fault_text(kind)])
+    Ok(write!(out, " {}-{}", token.span.start, token.span.end)?)
 }
 
 /// Adds the tokens of a text, each with its place, or where and why it stops to have any.
@@ -115,7 +105,7 @@ pub(crate) fn push_tokens(out: &mut String, text: &[u8]) -> Result<(), Memory>
             }
             Ok(())
         }
-        Err(LexFault::At { at, kind }) => push_fault(out, at, kind),
+        Err(LexFault::At { at, kind }) => Ok(write!(out, "at {at}: {}", fault_text(kind))?),
         Err(LexFault::Memory) => push_word(out, "no memory"),
     }
 }

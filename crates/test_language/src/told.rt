@@ -6,7 +6,7 @@ use plan_changes::Change;
 use plan_schemas::schema_of;
 use schema_grammar::schema_text;
 use std::str::from_utf8;
-use test_kit::{push_count, push_word};
+use test_kit::{push_given, push_word};
 
 fn push_bytes(out: &mut String, bytes: &[u8]) -> Result<(), Memory> {
     push_word(out, from_utf8(bytes).unwrap_or("no text"))
@@ -21,15 +21,7 @@ fn push_named(out: &mut String, word: &str, name: &Name) -> Result<(), Memory> {
 
 fn push_schema(out: &mut String, schema: &Schema) -> Result<(), Memory> {
     let text = schema_text(*out.allocator(), schema)?;
-    let told = push_bytes(out, text.as_slice());
-    drop(text);
-    told
-}
-
-fn push_leaf(out: &mut String, leaf: &Leaf) -> Result<(), Memory> {
-    push_bytes(out, leaf.name.as_slice())?;
-    push_word(out, "@")?;
-    push_count(out, u64::from(leaf.version))
+    push_given(out, text)
 }
 
 /// Adds versions that are read, each between these words.
@@ -41,8 +33,8 @@ fn push_leaves(
 ) -> Result<(), Memory> {
     for leaf in leaves {
         push_word(out, before)?;
-        push_leaf(out, leaf)?;
-        push_word(out, behind)?;
+        push_bytes(out, leaf.name.as_slice())?;
+        write!(out, "@{}{behind}", leaf.version)?;
     }
     Ok(())
 }
@@ -84,19 +76,16 @@ fn push_version(
     push_reads(out, " ", plan, "")
 }
 
-fn push_below(out: &mut String, name: &Name, below: u32) -> Result<(), Memory> {
-    push_named(out, "remove", name)?;
-    push_word(out, " below ")?;
-    push_count(out, u64::from(below))
-}
-
 fn push_change(out: &mut String, change: &Change) -> Result<(), Memory> {
     match change {
         Change::Create { name, schema } => push_array(out, "create", name, schema),
         Change::Store { name, schema, plan } => push_version(out, "store", name, schema, plan),
         Change::Insert { name, schema, plan } => push_version(out, "insert", name, schema, plan),
         Change::Remove { name } => push_named(out, "remove", name),
-        Change::RemoveVersions { name, below } => push_below(out, name, *below),
+        Change::RemoveVersions { name, below } => {
+            push_named(out, "remove", name)?;
+            Ok(write!(out, " below {below}")?)
+        }
     }
 }
 

@@ -1,16 +1,17 @@
 //! Chains and blobs that are read and written in files of a few pages.
 
-use crate::files::{disk_of, number_at};
+use crate::files::disk_of;
 use crate::writing::write_two;
-use afl_in_memory::MemDisk;
+use afl_outside::MemDisk;
 use anyhow::Result;
 use cell_values::Bytes;
 use page_chain::{Link, blob_pages, read_blob, read_chain};
 
 /// Prints how many bytes there are, and the first and the last of them.
 fn tell_bytes(rt: &impl Print, bytes: &Bytes) -> Result<()> {
-    let first = number_at(bytes, 0);
-    let last = number_at(bytes, bytes.len().saturating_sub(1));
+    let bytes = bytes.as_slice();
+    let first = bytes.first().copied().unwrap_or(0);
+    let last = bytes.last().copied().unwrap_or(0);
     println!(rt; "{} bytes, {first} to {last}", bytes.len())?;
     Ok(())
 }
@@ -103,17 +104,13 @@ fn tell_read(rt: &(impl Print + AllocGlobal)) -> Result<()> {
     tell_links(rt, "a link behind the last page", &[0, 1], 2, 4092, &[])
 }
 
-fn tell_blobs(rt: &(impl Print + AllocGlobal)) -> Result<()> {
-    tell_blob(rt, "a blob", &[], &[2, 1], 4097)?;
-    tell_blob(rt, "a blob of nothing", &[], &[], 0)?;
-    tell_blob(rt, "a blob past the end", &[], &[2, 4, 1, 3], 16384)?;
-    tell_blob(rt, "a blob whose second read fails", &[1], &[2, 1], 8192)
-}
-
 /// Prints what is answered where chains and blobs are read, and where they are written and a call of the disk fails.
 pub(crate) fn tell_chains(rt: &(impl Print + AllocGlobal)) -> Result<()> {
     tell_read(rt)?;
-    tell_blobs(rt)?;
+    tell_blob(rt, "a blob", &[], &[2, 1], 4097)?;
+    tell_blob(rt, "a blob of nothing", &[], &[], 0)?;
+    tell_blob(rt, "a blob past the end", &[], &[2, 4, 1, 3], 16384)?;
+    tell_blob(rt, "a blob whose second read fails", &[1], &[2, 1], 8192)?;
     for fails in 0..7 {
         tell_written(rt, fails)?;
     }

@@ -1,16 +1,15 @@
 //! Commits in which a call of the disk fails, and what a crash leaves of them.
 ghost use Rattle.std.specs.Prelude.{OnErr};
 ghost use Rattle.page_file.specs.OpeningOpened.{AreFresh};
-ghost use Rattle.page_slots.specs.Standing.{IsTarget};
+ghost use Rattle.page_chain.specs.Standing.{IsTarget};
 
 use crate::images::{RECORD, Seen, catalogue_of, seen_behind};
-use afl_in_memory::MemDisk;
-use afl_outside::{Disk, Failed};
+use afl_outside::{Disk, Failed, MemDisk};
 use anyhow::Result;
 use cell_values::{Bytes, List, Memory};
 use page_file::PageFile;
 use std::alloc::Global;
-use test_files::{bytes_of, commit_base, commit_record, disk_of, made, open};
+use test_kit::{commit_base, commit_record, disk_bytes, disk_of, made, open};
 
 /// A commit, with the pages that it writes.
 #[derive(Clone, Copy)]
@@ -20,7 +19,7 @@ enum Commit {
 }
 
 /// What a commit comes to.
-#[derive(Clone, Copy, PartialEq, Eq)]
+#[derive(Clone, Copy)]
 enum Outcome {
     NotOpened,
     NotDone,
@@ -91,7 +90,7 @@ fn attempt(
 /// The file behind the commit.
 fn committed(alloc: Global, case: &Case) -> Result<Bytes, Memory> {
     let (_, disk) = attempt(alloc, case, None, false)?;
-    bytes_of(&disk)
+    disk_bytes(&disk)
 }
 
 fn tell_seen(rt: &impl Print, seen: Seen) -> Result<()> {
@@ -116,18 +115,6 @@ fn tell_moments(
     Ok(())
 }
 
-fn tell_outcome(rt: &impl Print, outcome: Outcome) -> Result<()> {
-    print!(rt;
-        "{}",
-        match outcome {
-            Outcome::NotOpened => "not opened:",
-            Outcome::NotDone => "not done:",
-            Outcome::Done => "done:",
-        }
-    )?;
-    Ok(())
-}
-
 /// Prints what came of a commit. Where it wasn't done it is tried again, with the target closed at the end.
 fn tell_made(
     rt: &(impl Print + AllocGlobal),
@@ -136,7 +123,12 @@ fn tell_made(
     outcome: Outcome,
     disk: &MemDisk,
 ) -> Result<()> {
-    tell_outcome(rt, outcome)?;
+    let word = match outcome {
+        Outcome::NotOpened => "not opened:",
+        Outcome::NotDone => "not done:",
+        Outcome::Done => "done:",
+    };
+    print!(rt; "{word}")?;
     tell_moments(rt, disk, 0, case.sequence)?;
     if outcome == Outcome::NotDone {
         print!(rt; ", then closed:")?;
@@ -200,18 +192,8 @@ fn base_on(alloc: Global, file: Bytes, sequence: u64, page: u32, log: u32) -> Re
     })
 }
 
-fn tell_record(rt: &(impl Print + AllocGlobal)) -> Result<()> {
-    let record = record_on(rt.alloc(), made(rt.alloc())?)?;
-    tell_commit(rt, "a record", &record, 9)
-}
-
 fn first_base(alloc: Global) -> Result<Case> {
     Ok(base_on(alloc, made(alloc)?, 1, 3, 4)?)
-}
-
-fn tell_base(rt: &(impl Print + AllocGlobal)) -> Result<()> {
-    let base = first_base(rt.alloc())?;
-    tell_commit(rt, "a base", &base, 10)
 }
 
 /// The file behind the first base.
@@ -220,15 +202,19 @@ fn behind_base(alloc: Global) -> Result<Bytes> {
     Ok(committed(alloc, &base)?)
 }
 
-fn tell_next(rt: &(impl Print + AllocGlobal)) -> Result<()> {
-    let next = base_on(rt.alloc(), behind_base(rt.alloc())?, 2, 5, 6)?;
-    tell_commit(rt, "a base over an open slot", &next, 11)
-}
-
 /// Prints for each commit and each call that fails what the images open as, after each number of calls: o as before the commit, n with the
 /// slot that was committed, f with its root in format 1, x anything else.
 pub(crate) fn tell_crashes(rt: &(impl Print + AllocGlobal)) -> Result<()> {
-    tell_record(rt)?;
-    tell_base(rt)?;
-    tell_next(rt)
+    let record = record_on(rt.alloc(), made(rt.alloc())?)?;
+    let told = tell_commit(rt, "a record", &record, 9);
+    drop(record);
+    told?;
+    let base = first_base(rt.alloc())?;
+    let told = tell_commit(rt, "a base", &base, 10);
+    drop(base);
+    told?;
+    let next = base_on(rt.alloc(), behind_base(rt.alloc())?, 2, 5, 6)?;
+    let told = tell_commit(rt, "a base over an open slot", &next, 11);
+    drop(next);
+    told
 }

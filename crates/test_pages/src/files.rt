@@ -1,6 +1,6 @@
 //! Files of a few pages.
 
-use afl_in_memory::MemDisk;
+use afl_outside::MemDisk;
 use cell_values::{Bytes, List, Memory};
 use std::alloc::Global;
 
@@ -21,12 +21,4 @@ fn file_of(alloc: Global, links: &[u32]) -> Result<Bytes, Memory> {
 pub(crate) fn disk_of(alloc: Global, links: &[u32], fails: &[u64]) -> Result<MemDisk, Memory> {
     let file = file_of(alloc, links)?;
     Ok(MemDisk::new(file, List::from_slice(alloc, fails)?))
-}
-
-/// The byte at a place, and 0 where there is none.
-pub(crate) fn number_at(bytes: &Bytes, at: usize) -> u8 {
-    match bytes.get(at) {
-        Some(number) => *number,
-        None => 0,
-    }
 }

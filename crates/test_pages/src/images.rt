@@ -1,11 +1,10 @@
 //! What a crash may leave of a file, and what that opens as.
 
-use afl_in_memory::MemDisk;
-use afl_outside::Disk;
+use afl_outside::{Disk, MemDisk};
 use cell_values::{Bytes, List, Memory};
 use page_file::PageFile;
 use std::alloc::Global;
-use test_files::{disk_of, kept_by, open, unsynced};
+use test_kit::{disk_of, kept_by, open, unsynced};
 
 /// What a file opens as.
 #[derive(Clone, Copy)]
@@ -30,15 +29,6 @@ pub(crate) struct Seen {
 }
 
 impl Seen {
-    fn nothing() -> Seen {
-        Seen {
-            old: false,
-            new: false,
-            new_in_format_one: false,
-            wrong: false,
-        }
-    }
-
     fn add(&mut self, opens: Opens) {
         match opens {
             Opens::Old => self.old = true,
@@ -140,7 +130,12 @@ pub(crate) fn seen_behind(
     calls: usize,
     before: u64,
 ) -> Result<Seen, Memory> {
-    let mut seen = Seen::nothing();
+    let mut seen = Seen {
+        old: false,
+        new: false,
+        new_in_format_one: false,
+        wrong: false,
+    };
     for fill in [0u8, 1, 255] {
         add_images(alloc, disk, calls, before, fill, &mut seen)?;
     }

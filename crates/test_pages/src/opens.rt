@@ -3,11 +3,10 @@
 use afl_outside::Disk;
 use anyhow::Result;
 use cell_values::Bytes;
-use page_chain::OpenCause;
+use page_chain::{OpenCause, Slot};
 use page_file::PageFile;
-use page_slots::Slot;
 use std::alloc::Global;
-use test_files::{disk_of, open};
+use test_kit::{disk_of, open};
 
 fn tell_target(rt: &impl Print, slot: Slot) -> Result<()> {
     match slot {

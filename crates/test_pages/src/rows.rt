@@ -5,7 +5,7 @@ use afl_outside::{Disk, Failed};
 use anyhow::Result;
 use cell_values::{Bytes, List, Memory};
 use std::alloc::Global;
-use test_files::{bytes_of, changed, commit_base, cut, disk_of, made, of_format_one, open};
+use test_kit::{changed, commit_base, cut, disk_bytes, disk_of, made, of_format_one, open};
 
 /// Prints the length of a file, and each byte of it that isn't 0 behind its place.
 fn tell_bytes(rt: &impl Print, title: &str, file: &Bytes) -> Result<()> {
@@ -37,7 +37,7 @@ fn read_on<D: Disk + Drop>(alloc: Global, disk: D) -> Option<D> {
 fn is_left_as_it_is(alloc: Global, bytes: &Bytes) -> Result<bool, Memory> {
     match read_on(alloc, disk_of(alloc, bytes.copy()?, None)?) {
         None => Ok(false),
-        Some(disk) => match bytes_of(&disk) {
+        Some(disk) => match disk_bytes(&disk) {
             Ok(left) => Ok(left == *bytes),
             Err(Memory) => Err(Memory),
         },
@@ -59,29 +59,19 @@ fn commit_on<D: Disk + Drop>(disk: D) -> Option<D> {
 fn with_base(alloc: Global, bytes: Bytes) -> Result<Bytes, Memory> {
     match commit_on(disk_of(alloc, bytes, None)?) {
         None => Ok(List::new(alloc)),
-        Some(disk) => bytes_of(&disk),
+        Some(disk) => disk_bytes(&disk),
     }
 }
 
-/// A file of format 1 is opened, and stays as it is.
-fn tell_old(rt: &(impl Print + AllocGlobal), old: &Bytes) -> Result<()> {
+/// A file of format 1 is opened, and stays as it is. A base that is committed to it is of format 2.
+fn tell_migration(rt: &(impl Print + AllocGlobal), old: &Bytes) -> Result<()> {
     tell_bytes(rt, "format 1", old)?;
     tell_open(rt, "format 1 opened", old.copy()?)?;
     let same = is_left_as_it_is(rt.alloc(), old)?;
     println!(rt; "its bytes are the same: {same}")?;
-    Ok(())
-}
-
-fn tell_new(rt: &(impl Print + AllocGlobal), new: &Bytes) -> Result<()> {
-    tell_bytes(rt, "with a new base", new)?;
-    tell_open(rt, "with a new base, opened", new.copy()?)
-}
-
-/// A base that is committed to it is of format 2.
-fn tell_migration(rt: &(impl Print + AllocGlobal), old: &Bytes) -> Result<()> {
-    tell_old(rt, old)?;
     let new = with_base(rt.alloc(), old.copy()?)?;
-    tell_new(rt, &new)
+    tell_bytes(rt, "with a new base", &new)?;
+    tell_open(rt, "with a new base, opened", new)
 }
 
 /// Opens the file with these bytes over it at a place.
@@ -95,7 +85,10 @@ fn tell_changed(
     tell_open(rt, title, changed(rt.alloc(), file, at, bytes)?)
 }
 
-fn tell_wrong_fronts(rt: &(impl Print + AllocGlobal), file: &Bytes) -> Result<()> {
+/// Opens a file that was made, and such files with another front.
+fn tell_new_file(rt: &(impl Print + AllocGlobal), file: &Bytes) -> Result<()> {
+    tell_bytes(rt, "a database that was made", file)?;
+    tell_open(rt, "opened", file.copy()?)?;
     tell_open(rt, "an empty file", cut(rt.alloc(), file, 0)?)?;
     tell_open(rt, "page 0 cut", cut(rt.alloc(), file, 4095)?)?;
     tell_changed(rt, "another text", file, 7, b"F")?;
@@ -106,12 +99,7 @@ fn tell_wrong_fronts(rt: &(impl Print + AllocGlobal), file: &Bytes) -> Result<()
     tell_changed(rt, "an open entry behind a closed one", file, 8256, &[1])
 }
 
-fn tell_new_file(rt: &(impl Print + AllocGlobal), file: &Bytes) -> Result<()> {
-    tell_bytes(rt, "a database that was made", file)?;
-    tell_open(rt, "opened", file.copy()?)?;
-    tell_wrong_fronts(rt, file)
-}
-
+/// Opens a file of format 1, and such files that are damaged.
 fn tell_old_file(rt: &(impl Print + AllocGlobal), old: &Bytes) -> Result<()> {
     tell_migration(rt, old)?;
     tell_open(rt, "format 1 without page 1", cut(rt.alloc(), old, 4096)?)?;
@@ -122,10 +110,6 @@ fn tell_old_file(rt: &(impl Print + AllocGlobal), old: &Bytes) -> Result<()> {
         4096,
         &[1],
     )?;
-    tell_two_slots(rt, old)
-}
-
-fn tell_two_slots(rt: &(impl Print + AllocGlobal), old: &Bytes) -> Result<()> {
     let both = changed(rt.alloc(), old, 1024, &[1])?;
     tell_changed(
         rt,
@@ -136,14 +120,10 @@ fn tell_two_slots(rt: &(impl Print + AllocGlobal), old: &Bytes) -> Result<()> {
     )
 }
 
-fn tell_made(rt: &(impl Print + AllocGlobal)) -> Result<()> {
-    let file = made(rt.alloc())?;
-    tell_new_file(rt, &file)
-}
-
 /// Prints what files open as, and where they are no database.
 pub(crate) fn tell_rows(rt: &(impl Print + AllocGlobal)) -> Result<()> {
-    tell_made(rt)?;
+    let file = made(rt.alloc())?;
+    tell_new_file(rt, &file)?;
     let old = of_format_one(rt.alloc())?;
     tell_old_file(rt, &old)
 }

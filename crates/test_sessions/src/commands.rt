@@ -3,30 +3,26 @@
 //! Behind `words: ` stand the words of a command line without a script; behind `init: ` a number of zero bytes, of the device that
 //! `init db` is run over; behind `fails: ` the number, from 0, of the call of an empty device that fails. A script behind `workers: ` is
 //! run over a new database with one worker and over another one with eight, and both replies are told; one behind `csv: ` over a new
-//! database, where arrays are told as CSV, and one behind `trace: ` over one where it is told what was read. In a script `~` stands for
-//! a line feed, and `{127 (}` for 127 of `(`.
+//! database, where arrays are told as CSV, and one behind `trace: ` over one where it is told what was read.
 
-mod files;
-mod runs;
-
+use crate::reports::{device_of, new_file, push_run, shelf_of, streams_of};
 use cell_values::Memory;
-use runs::{push_device, push_run, push_script};
 use std::sync::Wait;
 use std::thread::Threads;
 use test_kit::push_word;
+use test_stores::count_of;
 
-fn number_of(text: &str) -> u16 {
-    text.parse::<u16>().unwrap_or(0)
-}
-
-/// Runs a script with one worker, and again with eight.
-fn push_workers<R: AllocGlobal + Threads + Wait + Sync>(
+/// Runs a command line over a new database, with the script that a text stands for, and tells the replies.
+fn push_script<R: AllocGlobal + Threads + Wait + Sync>(
     rt: &R,
     out: &mut String,
+    line: &str,
     text: &str,
 ) -> Result<(), Memory> {
-    push_script(rt, out, "run db --workers 1 -", text)?;
-    push_script(rt, out, "run db --workers 8 -", text)
+    let database = new_file(rt)?;
+    let shelf = shelf_of(rt.alloc(), database.as_slice(), &["-"], &[text]);
+    drop(database);
+    push_run(rt, out, line, shelf?, false)
 }
 
 /// Adds what the run of a line comes to, by the word that it begins with.
@@ -36,13 +32,26 @@ fn push_named<R: AllocGlobal + Threads + Wait + Sync>(
     word: &str,
     text: &str,
 ) -> Result<(), Memory> {
+    let number = count_of(text);
     match word {
-        "workers" => push_workers(rt, out, text),
+        "workers" => {
+            push_script(rt, out, "run db --workers 1 -", text)?;
+            push_script(rt, out, "run db --workers 8 -", text)
+        }
         "csv" => push_script(rt, out, "run db --format csv+ -", text),
         "trace" => push_script(rt, out, "run db --trace -", text),
-        "words" => push_run(rt, out, text),
-        "init" => push_device(rt, out, usize::from(number_of(text)), &[]),
-        "fails" => push_device(rt, out, 0, &[u64::from(number_of(text))]),
+        "words" => push_run(rt, out, text, streams_of(rt.alloc(), "", &[], &[])?, true),
+        "init" => push_run(
+            rt,
+            out,
+            "init db",
+            device_of(rt.alloc(), number as usize, &[])?,
+            true,
+        ),
+        "fails" => {
+            let device = device_of(rt.alloc(), 0, &[u64::from(number)])?;
+            push_run(rt, out, "init db", device, true)
+        }
         _ => push_word(out, "unknown\n"),
     }
 }

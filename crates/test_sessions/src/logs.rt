@@ -5,7 +5,8 @@ use cell_values::{List, Memory};
 use std::sync::Wait;
 use std::thread;
 use std::thread::Threads;
-use test_kit::{push_count, push_word};
+use test_kit::push_word;
+use test_stores::push_numbered;
 use turn_lock::{Log, TurnLock, TurnSeat, append};
 
 /// Whether the entries of a seat have the contents 0 to 999, in this order.
@@ -47,28 +48,17 @@ fn append_all<R: Threads + Wait + Sync>(
     thread::for_each_mut(rt, seats, 4, &each);
 }
 
-/// Adds whether a seat's entries are all there, in order.
-fn push_seat(out: &mut String, log: &Log, by: u32) -> Result<(), Memory> {
-    push_word(out, "seat ")?;
-    push_count(out, u64::from(by))?;
-    push_word(
-        out,
-        if has_thousand(log, by) {
+/// Adds how many entries there are, and whether those of each seat are all there, in order.
+fn push_log(out: &mut String, log: &Log) -> Result<(), Memory> {
+    push_numbered(out, "log ", log.number, ", entries ")?;
+    push_numbered(out, "", log.entries.len() as u64, "\n")?;
+    for by in 0..4u32 {
+        let told = if has_thousand(log, by) {
             ": 0 to 999, in order\n"
         } else {
             ": an entry is missing\n"
-        },
-    )
-}
-
-fn push_log(out: &mut String, log: &Log) -> Result<(), Memory> {
-    push_word(out, "log ")?;
-    push_count(out, log.number)?;
-    push_word(out, ", entries ")?;
-    push_count(out, log.entries.len() as u64)?;
-    push_word(out, "\n")?;
-    for by in 0..4 {
-        push_seat(out, log, by)?;
+        };
+        push_numbered(out, "seat ", u64::from(by), told)?;
     }
     Ok(())
 }

@@ -6,6 +6,7 @@
 
 mod bells;
 mod commands;
+mod commits;
 mod logs;
 mod reports;
 mod seats;
@@ -17,6 +18,7 @@ mod tries;
 use bells::push_bells;
 use cell_values::Memory;
 use commands::push_command;
+use commits::{push_cases, push_runs};
 use logs::push_entries;
 use seats::push_seats;
 use sessions::push_sessions;
@@ -29,48 +31,31 @@ use tally::push_turns;
 use test_kit::{begin_answer, input, push_words};
 use tries::push_try;
 
-/// What a line of a table is.
-#[derive(Clone, Copy)]
-enum Kind {
-    Script,
-    Command,
-    Sessions,
-    Seats,
-}
-
 /// A table of cases.
 #[derive(Clone, Copy)]
 enum Table {
-    Lines(Kind),
-    Steps,
+    Scripts,
+    Commands,
+    Sessions,
+    Seats,
+    SharedSteps,
     Turns,
+    Steps,
+    Stops,
 }
 
 /// The table below a title.
 fn table_of(title: &str) -> Option<Table> {
     match title {
-        "scripts" => Some(Table::Lines(Kind::Script)),
-        "command lines" => Some(Table::Lines(Kind::Command)),
-        "sessions side by side" => Some(Table::Lines(Kind::Sessions)),
-        "sessions on threads" => Some(Table::Lines(Kind::Seats)),
-        "steps of three sessions" => Some(Table::Steps),
+        "scripts" => Some(Table::Scripts),
+        "command lines" => Some(Table::Commands),
+        "sessions side by side" => Some(Table::Sessions),
+        "sessions on threads" => Some(Table::Seats),
+        "steps of three sessions" => Some(Table::SharedSteps),
         "turns" => Some(Table::Turns),
+        "steps" => Some(Table::Steps),
+        "stops" => Some(Table::Stops),
         _ => None,
-    }
-}
-
-/// Adds what comes of a line.
-fn push_case<R: AllocGlobal + Threads + Wait + Clock + Sync>(
-    rt: &R,
-    out: &mut String,
-    kind: Kind,
-    line: &str,
-) -> Result<(), Memory> {
-    match kind {
-        Kind::Script => push_try(rt, out, line),
-        Kind::Command => push_command(rt, out, line),
-        Kind::Sessions => push_sessions(rt, out, line),
-        Kind::Seats => push_seats(rt, out, line),
     }
 }
 
@@ -78,22 +63,20 @@ fn push_case<R: AllocGlobal + Threads + Wait + Clock + Sync>(
 fn push_lines<R: AllocGlobal + Threads + Wait + Clock + Sync>(
     rt: &R,
     out: &mut String,
-    kind: Kind,
+    table: Table,
     text: &str,
 ) -> Result<(), Memory> {
     for line in text.lines() {
         if begin_answer(out, line)? {
-            push_case(rt, out, kind, line)?;
+            match table {
+                Table::Scripts => push_try(rt, out, line)?,
+                Table::Commands => push_command(rt, out, line)?,
+                Table::Sessions => push_sessions(rt, out, line)?,
+                _ => push_seats(rt, out, line)?,
+            }
         }
     }
     Ok(())
-}
-
-/// Adds what comes of threads that take turns, and of a bell.
-fn push_threads<R: Threads + Wait + Sync>(rt: &R, out: &mut String) -> Result<(), Memory> {
-    push_turns(rt, out)?;
-    push_entries(rt, out)?;
-    push_bells(rt, out)
 }
 
 /// Adds what comes of a table.
@@ -104,35 +87,30 @@ fn push_table<R: AllocGlobal + Threads + Wait + Clock + Sync>(
     text: &str,
 ) -> Result<(), Memory> {
     match table {
-        Table::Lines(kind) => push_lines(rt, out, kind, text),
-        Table::Steps => push_shared(rt, out, text),
-        Table::Turns => push_threads(rt, out),
+        Table::SharedSteps => push_shared(rt, out, text),
+        Table::Steps => push_runs(rt, out, text),
+        Table::Stops => push_cases(rt, out),
+        Table::Turns => {
+            push_turns(rt, out)?;
+            push_entries(rt, out)?;
+            push_bells(rt, out)
+        }
+        table => push_lines(rt, out, table, text),
     }
 }
 
-/// Adds the title of a table, and what comes of its lines.
-fn push_part<R: AllocGlobal + Threads + Wait + Clock + Sync>(
-    rt: &R,
-    out: &mut String,
-    part: &str,
-) -> Result<(), Memory> {
-    let Some((title, text)) = part.split_once('\n') else {
-        return Ok(());
-    };
-    push_words(out, &["### ", title, "\n"])?;
-    match table_of(title) {
-        Some(table) => push_table(rt, out, table, text),
-        None => Ok(()),
-    }
-}
-
-fn push_parts<R: AllocGlobal + Threads + Wait + Clock + Sync>(
+/// Adds the title of each table, and what comes of its lines.
+fn push_tables<R: AllocGlobal + Threads + Wait + Clock + Sync>(
     rt: &R,
     out: &mut String,
     text: &str,
 ) -> Result<(), Memory> {
     for part in text.split("### ") {
-        push_part(rt, out, part)?;
+        let (title, text) = part.split_once('\n').unwrap_or((part, ""));
+        if let Some(table) = table_of(title) {
+            push_words(out, &["### ", title, "\n"])?;
+            push_table(rt, out, table, text)?;
+        }
     }
     Ok(())
 }
@@ -140,7 +118,7 @@ fn push_parts<R: AllocGlobal + Threads + Wait + Clock + Sync>(
 fn main(rt: HostRuntime) -> io::Result<()> {
     let text = input(&rt)?;
     let mut out = String::new(rt.alloc());
-    match push_parts(&rt, &mut out, text.as_str()) {
+    match push_tables(&rt, &mut out, text.as_str()) {
         Ok(()) => print!(rt; "{out}"),
         Err(Memory) => println!(rt; "no memory"),
     }

@@ -2,8 +2,9 @@
 
 mod files;
 mod runs;
+mod scripts;
 mod told;
 
-pub(crate) use files::{file_left, file_of};
-pub(crate) use runs::{file_behind, report_of};
-pub(crate) use told::{push_bytes, push_notice, push_replies, push_report};
+pub(crate) use files::{device_of, file_left, shelf_of, streams_of};
+pub(crate) use runs::{file_behind, new_file, push_run, report_of};
+pub(crate) use told::{end_words, push_bytes, push_notice};

@@ -7,12 +7,10 @@
 //! The order is a list of stops, as `0p2`: session 0 comes to its statement 2, before its pin (`s`), behind it (`p`), or with its result
 //! computed (`c`); or, as `0w2`, to piece 2 of the work on a statement. A session or a worker that comes to a stop which is named goes on
 //! once all stops before it in the list are behind their sessions. A stop that is named twice is reached at the first place, and left at
-//! the second. Where a session is held too long all stops are let go; it is told where the order wasn't kept. In a script `{3 show(A#);}`
-//! is that text three times, with 0 to 2 for `#`.
+//! the second. Where a session is held too long all stops are let go; it is told where the order wasn't kept.
 
 mod order;
 mod runs;
-mod scripts;
 
 use cell_values::Memory;
 use runs::push_case;

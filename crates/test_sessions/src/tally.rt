@@ -7,7 +7,8 @@ use cell_values::{List, Memory};
 use std::sync::Wait;
 use std::thread;
 use std::thread::Threads;
-use test_kit::{push_count, push_word};
+use test_kit::push_word;
+use test_stores::push_numbered;
 use turn_lock::{History, TurnLock, TurnSeat};
 
 #[derive(Clone, Copy)]
@@ -96,28 +97,17 @@ fn all_turns<R: Threads + Wait + Sync>(
     thread::for_each_mut(rt, seats, 4, &each);
 }
 
-/// Adds whether a seat's last mark is of its last turn.
-fn push_seat(out: &mut String, tally: &Tally, by: u32) -> Result<(), Memory> {
-    push_word(out, "seat ")?;
-    push_count(out, u64::from(by))?;
-    push_word(
-        out,
-        if tally.last_turn(by) == Some(9_999) {
+/// Adds how many marks there are, and whether each seat's last one is of its last turn.
+fn push_tally(out: &mut String, tally: &Tally) -> Result<(), Memory> {
+    push_numbered(out, "start ", tally.start, ", marks ")?;
+    push_numbered(out, "", tally.count(), "\n")?;
+    for by in 0..4u32 {
+        let told = if tally.last_turn(by) == Some(9_999) {
             ": each turn, in order\n"
         } else {
             ": a turn is missing\n"
-        },
-    )
-}
-
-fn push_tally(out: &mut String, tally: &Tally) -> Result<(), Memory> {
-    push_word(out, "start ")?;
-    push_count(out, tally.start)?;
-    push_word(out, ", marks ")?;
-    push_count(out, tally.count())?;
-    push_word(out, "\n")?;
-    for by in 0..4 {
-        push_seat(out, tally, by)?;
+        };
+        push_numbered(out, "seat ", u64::from(by), told)?;
     }
     Ok(())
 }

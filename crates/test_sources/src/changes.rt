@@ -7,7 +7,7 @@ ghost use Rattle.test_sources.specs.Changed.{by_zero, change_of, plan_of, share,
 ghost use Rattle.test_sources.specs.Example.{leaf, schema};
 ghost use Rattle.test_sources.specs.declared.changes.Case.TheVariants.{Stores};
 
-use crate::example::{example_leaf, failing_source, name, schema};
+use crate::example::{example_leaf, failing_source, schema};
 use crate::layout::Layout;
 use crate::plans::above_five;
 use crate::show::{push_asked, push_broken, push_cause, push_chunks, push_faults};
@@ -21,6 +21,7 @@ use logical_plan::{Leaf, Plan};
 use plan_changes::{Change, let_go_change};
 use std::alloc::Global;
 use std::thread::Threads;
+use test_kit::name_of;
 
 /// What is made of the array of a plan.
 #[derive(Clone, Copy)]
@@ -61,7 +62,7 @@ fn target_of(alloc: Global, case: Case, layout: Layout) -> Result<Leaf, Memory>
     ensures { IfOk result (λ made. made ≡ target_of case layout) }
 {
     Ok(Leaf {
-        name: name(alloc, b"a")?,
+        name: name_of(alloc, b"a")?,
         version: version_of(case),
         schema: schema(alloc, layout)?,
     })
@@ -81,8 +82,9 @@ fn by_zero(alloc: Global, layout: Layout) -> Result<Plan, Memory>
     ensures { IfOk result (λ plan. plan ≡ by_zero layout) }
 {
     let leaf = example_leaf(alloc, layout)?;
+    let share = share(alloc)?;
     let none = TypedExpr::lit(Datum::Int(0));
-    let test = TypedExpr::compare(alloc, CompareOp::More, share(alloc)?, none)?;
+    let test = TypedExpr::compare(alloc, CompareOp::More, share, none)?;
     Plan::filter(alloc, Plan::scan(leaf), test)
 }
 
@@ -101,7 +103,7 @@ fn plan_of(alloc: Global, case: Case, layout: Layout) -> Result<Plan, Memory>
 fn store_of(alloc: Global, layout: Layout) -> Result<Change, Memory>
     ensures { IfOk result (λ change. change ≡ change_of Stores layout) }
 {
-    let name = name(alloc, b"b")?;
+    let name = name_of(alloc, b"b")?;
     let schema = schema(alloc, layout)?;
     let plan = plan_of(alloc, Case::Stores, layout)?;
     Ok(Change::Store { name, schema, plan })
@@ -111,7 +113,7 @@ fn store_of(alloc: Global, layout: Layout) -> Result<Change, Memory>
 fn insert_of(alloc: Global, case: Case, layout: Layout) -> Result<Change, Memory>
     ensures { IfOk result (λ change. change ≡ Insert (codes "a") (schema layout) (plan_of case layout)) }
 {
-    let name = name(alloc, b"a")?;
+    let name = name_of(alloc, b"a")?;
     let schema = schema(alloc, layout)?;
     let plan = plan_of(alloc, case, layout)?;
     Ok(Change::Insert { name, schema, plan })
@@ -163,8 +165,16 @@ fn push_made<S: ChunkSource, R: Threads + Sync>(
         0,
         &OpenGate,
     ) {
-        Ok(Ok(made)) => push_written(out, &made)?,
-        Ok(Err(broken)) => push_broken(out, &broken)?,
+        Ok(Ok(made)) => {
+            let told = push_written(out, &made);
+            drop(made);
+            told?;
+        }
+        Ok(Err(broken)) => {
+            let told = push_broken(out, &broken);
+            drop(broken);
+            told?;
+        }
         Err(cause) => push_cause(out, cause)?,
     }
     push_faults(out, source)
@@ -183,10 +193,18 @@ fn push_case<S: ChunkSource, R: Threads + Sync>(
     requires reads { Reads (S.state source.old) (leaf layout) }
 {
     let target = target_of(*out.allocator(), case, layout)?;
-    let change = change_of(*out.allocator(), case, layout)?;
-    let told = push_made(rt, out, source, &change, &target);
-    let_go_change(change);
-    told
+    match change_of(*out.allocator(), case, layout) {
+        Ok(change) => {
+            let told = push_made(rt, out, source, &change, &target);
+            let_go_change(change);
+            drop(target);
+            told
+        }
+        Err(Memory) => {
+            drop(target);
+            Err(Memory)
+        }
+    }
 }
 
 /// A change over a source, some of whose calls fail.
@@ -198,6 +216,9 @@ pub(crate) fn push_change<R: Threads + Sync>(
     fails: &[u64],
 ) -> Result<(), Memory> {
     let mut source = failing_source(*out.allocator(), layout, fails)?;
-    push_case(rt, out, &mut source, case, layout)?;
-    push_asked(out, source.asked())
+    let told = push_case(rt, out, &mut source, case, layout);
+    let asked = push_asked(out, source.asked());
+    drop(source);
+    told?;
+    asked
 }

@@ -13,48 +13,35 @@ ghost use Rattle.test_sources.specs.Example.{attributes, dimensions, schema, lea
 
 use crate::layout::Layout;
 use array_geom::{ChunkedArray, margins_of};
-use cell_values::{
-    Attribute, Cell, Datum, Dimension, Kind, List, Memory, Name, Row, Schema, coord_of,
-};
+use cell_values::{Attribute, Cell, Datum, Dimension, Kind, List, Memory, Row, Schema, coord_of};
 use chunk_cells::assemble;
 use chunk_source::{LeafArray, MemChunks, SureChunks};
 use logical_plan::Leaf;
 use std::alloc::Global;
-
-/// A text that is no name counts as want of memory: the texts here are names.
-pub(crate) fn name(alloc: Global, bytes: &[u8]) -> Result<Name, Memory>
-    ensures { IfOk result (λ name. name ≡ bytes.now) }
-{
-    match Name::new(List::from_slice(alloc, bytes)?) {
-        Some(name) => Ok(name),
-        None => Err(Memory),
-    }
-}
+use test_kit::{name_of, one_more};
 
 fn attributes(alloc: Global) -> Result<List<Attribute>, Memory>
     ensures { IfOk result (λ made. made ≡ attributes) }
 {
-    let mut attributes = List::new(alloc);
-    attributes.push(Attribute {
-        name: name(alloc, b"v")?,
+    let attribute = Attribute {
+        name: name_of(alloc, b"v")?,
         kind: Kind::Int64,
         nullable: true,
-    })?;
-    Ok(attributes)
+    };
+    one_more(List::new(alloc), attribute)
 }
 
 fn dimensions(alloc: Global, layout: Layout) -> Result<List<Dimension>, Memory>
     ensures { IfOk result (λ made. made ≡ dimensions layout) }
 {
-    let mut dimensions = List::new(alloc);
-    dimensions.push(Dimension {
-        name: name(alloc, b"i")?,
+    let dimension = Dimension {
+        name: name_of(alloc, b"i")?,
         lo: 0,
         hi: 3,
         chunk: layout.chunk_length(),
         overlap: layout.overlap(),
-    })?;
-    Ok(dimensions)
+    };
+    one_more(List::new(alloc), dimension)
 }
 
 pub(crate) fn schema(alloc: Global, layout: Layout) -> Result<Schema, Memory>
@@ -71,7 +58,7 @@ pub(crate) fn example_leaf(alloc: Global, layout: Layout) -> Result<Leaf, Memory
     ensures { IfOk result (λ made. made ≡ leaf layout) }
 {
     Ok(Leaf {
-        name: name(alloc, b"a")?,
+        name: name_of(alloc, b"a")?,
         version: 1,
         schema: schema(alloc, layout)?,
     })

@@ -3,7 +3,8 @@
 //! `leaf` and `filter` read the array from a source in memory whose calls with these numbers, from 0, fail, or, behind
 //! `sure`, from one that never fails: alone in chunks of two places, and under a filter in chunks of one place, of two and of
 //! all. `store`, `insert`, `begin` and `fault` store an array, and put one into the array, into one without versions, and one
-//! with a fault into the array. They tell the chunks, and which chunks were asked for.
+//! with a fault into the array. They tell the chunks, and which chunks were asked for. `workers` shares eight pieces among so many
+//! workers, and holds the first piece until another has come.
 #![tactic(auto)]
 
 mod changes;
@@ -12,14 +13,17 @@ mod layout;
 mod leaves;
 mod plans;
 mod show;
+mod workers;
 
-use anyhow::Result;
 use cell_values::Memory;
 use changes::{case_of, push_change};
 use layout::layout_of;
 use leaves::{push_failing, push_sure};
 use plans::{push_failing_filter, push_sure_filter};
+use std::io;
 use std::thread::Threads;
+use test_kit::{begin_answer, input, words_of};
+use workers::push_workers;
 
 /// The numbers of the calls that are to fail.
 fn numbers_in(out: &String, words: &[&str]) -> Result<Vec<u64>, Memory> {
@@ -38,6 +42,7 @@ fn push_answer<R: Threads + Sync>(rt: &R, out: &mut String, words: &[&str]) -> R
         ["filter", layout, fails @ ..] => {
             push_failing_filter(rt, out, layout_of(layout), &numbers_in(out, fails)?)
         }
+        ["workers", count] => push_workers(rt, out, count),
         ["sure", "filter", layout] => push_sure_filter(rt, out, layout_of(layout)),
         [case, layout, fails @ ..] => {
             let numbers = numbers_in(out, fails)?;
@@ -47,22 +52,24 @@ fn push_answer<R: Threads + Sync>(rt: &R, out: &mut String, words: &[&str]) -> R
     }
 }
 
-/// Prints a title, or a line and its answer.
-fn tell(rt: &(impl Print + AllocGlobal + Threads + Sync), line: &str) -> Result<()> {
-    if line.starts_with("##") {
-        println!(rt; "{line}")?;
-        return Ok(());
+/// Adds titles, and lines with their answers.
+fn push_lines<R: Threads + Sync>(rt: &R, out: &mut String, text: &str) -> Result<(), Memory> {
+    for line in text.lines() {
+        if begin_answer(out, line)? {
+            let words = words_of(*out.allocator(), line)?;
+            let told = push_answer(rt, out, words.as_slice());
+            drop(words);
+            told?;
+        }
     }
-    let words: Vec<&str> = line.split_whitespace().collect(rt.alloc())?;
-    let mut answer = String::new(rt.alloc());
-    push_answer(rt, &mut answer, words.as_slice())?;
-    print!(rt; "> {line}\n{answer}")?;
     Ok(())
 }
 
-fn main(rt: HostRuntime) -> Result<()> {
-    for line in rt.lines(rt.alloc()) {
-        tell(&rt, line?.as_str())?;
+fn main(rt: HostRuntime) -> io::Result<()> {
+    let text = input(&rt)?;
+    let mut out = String::new(rt.alloc());
+    match push_lines(&rt, &mut out, text.as_str()) {
+        Ok(()) => print!(rt; "{out}"),
+        Err(Memory) => println!(rt; "no memory"),
     }
-    Ok(())
 }

@@ -6,7 +6,7 @@ ghost use Rattle.test_sources.specs.Example.{above_five, leaf};
 
 use crate::example::{example_leaf, failing_source, sure_source};
 use crate::layout::Layout;
-use crate::show::{push_array, push_asked, push_cause, push_cells, push_faults};
+use crate::show::{push_asked, push_cause, push_cells, push_chunks, push_faults};
 use afl_outside::OpenGate;
 use cell_values::{CompareOp, Datum, Memory};
 use chunk_exec::execute;
@@ -38,8 +38,11 @@ fn push_plan<S: ChunkSource, R: Threads + Sync>(
 {
     match execute(rt, *out.allocator(), plan, source, 1, 0, &OpenGate) {
         Ok(array) => {
-            push_array(out, &array)?;
-            push_cells(out, &array)?;
+            let chunks = push_chunks(out, array.chunks.as_slice());
+            let cells = push_cells(out, &array);
+            drop(array);
+            chunks?;
+            cells?;
         }
         Err(cause) => push_cause(out, cause)?,
     }
@@ -71,8 +74,11 @@ pub(crate) fn push_failing_filter<R: Threads + Sync>(
     fails: &[u64],
 ) -> Result<(), Memory> {
     let mut source = failing_source(*out.allocator(), layout, fails)?;
-    push_filter(rt, out, &mut source, layout)?;
-    push_asked(out, source.asked())
+    let told = push_filter(rt, out, &mut source, layout);
+    let asked = push_asked(out, source.asked());
+    drop(source);
+    told?;
+    asked
 }
 
 /// The filter over a source that never fails.
@@ -82,6 +88,9 @@ pub(crate) fn push_sure_filter<R: Threads + Sync>(
     layout: Layout,
 ) -> Result<(), Memory> {
     let mut source = sure_source(*out.allocator(), layout)?;
-    push_filter(rt, out, &mut source, layout)?;
-    push_asked(out, source.asked())
+    let told = push_filter(rt, out, &mut source, layout);
+    let asked = push_asked(out, source.asked());
+    drop(source);
+    told?;
+    asked
 }

@@ -2,22 +2,20 @@
 ghost use Rattle.array_parts.specs.Placed.{HavePlaces, IsSound};
 
 use array_geom::{Chunk, ChunkedArray};
-use cell_values::{Broken, Cell, Datum, List, Memory, Row};
+use cell_values::{Broken, Datum, Memory, Row};
 use chunk_cells::rows;
 use chunk_source::{Asked, ChunkSource, ExecFault};
 use test_kit::{push_cell, push_chunk, push_coord, push_datum, push_number};
 
-fn cells_of(chunk: &Chunk) -> Result<List<Cell>, Memory> {
-    let copy = chunk.cells.copy()?;
-    copy.into_list()
-}
-
 fn push_one(out: &mut String, chunk: &Chunk) -> Result<(), Memory> {
-    let cells = cells_of(chunk)?;
-    push_chunk(out, &chunk.at, chunk.positions.as_slice(), cells.as_slice())?;
-    Ok(())
+    let copy = chunk.cells.copy()?;
+    let cells = copy.into_list()?;
+    let told = push_chunk(out, &chunk.at, chunk.positions.as_slice(), cells.as_slice());
+    drop(cells);
+    told
 }
 
+/// Adds chunks.
 pub(crate) fn push_chunks(out: &mut String, chunks: &[Chunk]) -> Result<(), Memory> {
     for chunk in chunks {
         push_one(out, chunk)?;
@@ -25,13 +23,8 @@ pub(crate) fn push_chunks(out: &mut String, chunks: &[Chunk]) -> Result<(), Memo
     Ok(())
 }
 
-/// Adds the chunks of an array.
-pub(crate) fn push_array(out: &mut String, array: &ChunkedArray) -> Result<(), Memory> {
-    push_chunks(out, array.chunks.as_slice())
-}
-
-fn push_rows(out: &mut String, rows: &List<Row>) -> Result<(), Memory> {
-    for row in rows.as_slice() {
+fn push_rows(out: &mut String, rows: &[Row]) -> Result<(), Memory> {
+    for row in rows {
         out.push_str("cell ")?;
         push_coord(out, &row.at)?;
         push_cell(out, &row.cell)?;
@@ -53,7 +46,9 @@ fn push_held(out: &mut String, array: &ChunkedArray) -> Result<(), Memory>
     requires { HavePlaces array.now.schema array.now.margins.items array.now.chunks }
 {
     let rows = rows(array)?;
-    push_rows(out, &rows)
+    let told = push_rows(out, rows.as_slice());
+    drop(rows);
+    told
 }
 
 /// Adds the cells of an array, by their coordinates.

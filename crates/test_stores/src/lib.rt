@@ -1,14 +1,19 @@
-//! Stores for programs of tests: disks that count and stop, changes said in lines, and what is read of a store.
+//! What programs of tests do with stores: disks that count and stop, changes said in lines, what is read of a store, and stores that
+//! sessions share.
 #![tactic(auto)]
 
 mod disks;
 mod readings;
+mod shared;
 mod stores;
 
-pub use array_store::Store;
 pub use disks::{QuietDisk, Watch, push_costs};
-pub use readings::{add_rows, cells, held_in, leaf_of, push_answered, whole};
+pub use readings::{held_in, push_answered};
+pub use shared::{
+    Run, SilentDisk, Visitor, answer_line, new_database, old_database, push_finished, push_threads,
+    shared_database, with_change,
+};
 pub use stores::{
-    Answer, Hold, Offer, Refused, changed, let_go_entries, let_go_store, offer_over, once, opened,
-    pinned, reaped, statement, unpinned,
+    Answer, Hold, SessionPair, answer_of_pair, count_of, limits_of, pair_of, pair_over,
+    push_counts, push_numbered,
 };

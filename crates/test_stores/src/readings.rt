@@ -4,6 +4,7 @@ mod held;
 mod reading;
 mod versions;
 
+pub(crate) use held::answered;
 pub use held::{held_in, push_answered};
-pub use reading::{add_rows, cells, leaf_of};
-pub use versions::whole;
+pub(crate) use reading::{add_rows, cells, named_leaf};
+pub(crate) use versions::whole;

@@ -7,7 +7,7 @@ use agg_states::AggState;
 use cell_values::{Datum, Memory, coord_of};
 use logical_plan::AggFunction;
 use std::alloc::Global;
-use test_kit::{cell_of, place_in, push_datum, push_word, words_of};
+use test_kit::{cell_of, place_in, push_value};
 
 /// How many places a part has at most.
 const LIMIT: usize = 100;
@@ -73,43 +73,14 @@ fn merged(
     }
 }
 
-/// Adds the aggregate of two parts.
-fn push_merged(
-    out: &mut String,
-    function: AggFunction,
-    first: &[&str],
-    second: &[&str],
-) -> Result<(), Memory>
-    requires first { length first.now ≤ 100 }
-    requires second { length second.now ≤ 100 }
-{
-    let value = merged(*out.allocator(), function, first, second)?;
-    let told = push_datum(out, &value);
-    drop(value);
-    told
-}
-
 /// Adds the aggregate of the parts of some words, unless one has too many.
-fn push_aggregate(out: &mut String, function: &str, words: &[&str]) -> Result<(), Memory> {
-    let (first, second) = parts_of(words);
-    if first.len() <= LIMIT && second.len() <= LIMIT {
-        push_merged(out, function_of(function), first, second)?;
+pub(crate) fn push_aggregate(out: &mut String, words: &[&str]) -> Result<(), Memory> {
+    if let [_, function, places @ ..] = words {
+        let (first, second) = parts_of(places);
+        if first.len() <= LIMIT && second.len() <= LIMIT {
+            let value = merged(*out.allocator(), function_of(function), first, second)?;
+            push_value(out, value)?;
+        }
     }
-    push_word(out, "\n")
-}
-
-/// Adds the answer to the words of a line.
-fn push_words(out: &mut String, words: &[&str]) -> Result<(), Memory> {
-    match words {
-        [_, function, places @ ..] => push_aggregate(out, function, places),
-        _ => Ok(()),
-    }
-}
-
-/// Adds the answer to a line.
-pub(crate) fn push_aggregate_line(out: &mut String, line: &str) -> Result<(), Memory> {
-    let words = words_of(*out.allocator(), line)?;
-    let told = push_words(out, words.as_slice());
-    drop(words);
-    told
+    Ok(())
 }

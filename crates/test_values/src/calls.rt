@@ -4,7 +4,7 @@ use cell_values::{
     CompareOp, Datum, Memory, add, and3, compare, div, mul, neg, not3, or3, rem, sub,
 };
 use std::alloc::Global;
-use test_kit::{datum_of, push_datum};
+use test_kit::{datum_of, push_value};
 
 fn related(op: &str, a: &Datum, b: &Datum) -> Datum {
     match op {
@@ -30,28 +30,12 @@ fn of_two(alloc: Global, op: &str, a: &Datum, b: &Datum) -> Result<Datum, Memory
     }
 }
 
-fn of_one(op: &str, a: &Datum) -> Datum {
-    match op {
-        "-" => neg(a),
-        _ => not3(a),
-    }
-}
-
 /// Adds what a call with one operand gives.
 pub(crate) fn push_one(out: &mut String, op: &str, a: &str) -> Result<(), Memory> {
     let a = datum_of(*out.allocator(), a)?;
-    let value = of_one(op, &a);
+    let value = if op == "-" { neg(&a) } else { not3(&a) };
     drop(a);
-    let told = push_datum(out, &value);
-    drop(value);
-    told
-}
-
-fn push_given(out: &mut String, op: &str, a: &Datum, b: &Datum) -> Result<(), Memory> {
-    let value = of_two(*out.allocator(), op, a, b)?;
-    let told = push_datum(out, &value);
-    drop(value);
-    told
+    push_value(out, value)
 }
 
 /// Adds what a call with two operands gives.
@@ -60,10 +44,10 @@ pub(crate) fn push_two(out: &mut String, a: &str, op: &str, b: &str) -> Result<(
     let a = datum_of(alloc, a)?;
     match datum_of(alloc, b) {
         Ok(b) => {
-            let told = push_given(out, op, &a, &b);
+            let value = of_two(alloc, op, &a, &b);
             drop(a);
             drop(b);
-            told
+            push_value(out, value?)
         }
         Err(Memory) => {
             drop(a);

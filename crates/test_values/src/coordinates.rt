@@ -1,12 +1,9 @@
 //! Coordinates, boxes and rows.
 
 use array_rows::is_in_box;
-use cell_values::{
-    Bounds, Broken, Cell, Coord, Datum, FaultKind, List, Memory, Row, row_major, same_place,
-};
-use std::alloc::Global;
+use cell_values::{Bounds, Broken, Datum, FaultKind, Memory, Row, row_major, same_place};
 use std::cmp::Ordering;
-use test_kit::{coord_in, datum_of, fault_of, push_cell, push_coord, push_datum, push_word};
+use test_kit::{cell_of, coord_in, fault_of, push_cell, push_coord, push_datum, push_word};
 
 fn bounds_of(lo: &str, hi: &str) -> Bounds {
     Bounds {
@@ -15,21 +12,12 @@ fn bounds_of(lo: &str, hi: &str) -> Bounds {
     }
 }
 
-fn push_corners(out: &mut String, area: &Bounds) -> Result<(), Memory> {
-    push_coord(out, &area.lo)?;
-    push_word(out, " to ")?;
-    push_coord(out, &area.hi)
-}
-
 /// Adds a copy of a box.
 pub(crate) fn push_bounds(out: &mut String, lo: &str, hi: &str) -> Result<(), Memory> {
-    push_corners(out, &bounds_of(lo, hi).copy()?)
-}
-
-fn push_place(out: &mut String, broken: &Broken) -> Result<(), Memory> {
-    push_coord(out, &broken.at)?;
-    push_word(out, " ")?;
-    push_datum(out, &Datum::Bad(broken.kind))
+    let copy = bounds_of(lo, hi).copy()?;
+    push_coord(out, &copy.lo)?;
+    push_word(out, " to ")?;
+    push_coord(out, &copy.hi)
 }
 
 /// Adds a copy of what breaks an array.
@@ -38,56 +26,44 @@ pub(crate) fn push_broken(out: &mut String, at: &str, kind: &str) -> Result<(), 
         at: coord_in(at),
         kind: fault_of(kind).unwrap_or(FaultKind::Overflow),
     };
-    push_place(out, &broken.copy()?)
+    let copy = broken.copy()?;
+    push_coord(out, &copy.at)?;
+    push_word(out, " ")?;
+    push_datum(out, &Datum::Bad(copy.kind))
 }
 
-fn push_shown(out: &mut String, row: &Row) -> Result<(), Memory> {
-    push_coord(out, &row.at)?;
-    push_cell(out, &row.cell)
-}
-
-fn push_copied(out: &mut String, row: &Row) -> Result<(), Memory> {
-    let copy = row.copy()?;
-    let told = push_shown(out, &copy);
-    drop(copy);
-    told
-}
-
-/// The values of these words.
-fn values_of(alloc: Global, words: &[&str]) -> Result<List<Datum>, Memory> {
-    let mut values = List::new(alloc);
-    for word in words {
-        values.push(datum_of(alloc, word)?)?;
-    }
-    Ok(values)
-}
-
-/// Adds a copy of a row.
-pub(crate) fn push_row(out: &mut String, at: &str, words: &[&str]) -> Result<(), Memory> {
-    let values = values_of(*out.allocator(), words)?;
-    let row = Row {
-        at: coord_in(at),
-        cell: Cell::Full(values),
-    };
-    let told = push_copied(out, &row);
+/// Adds a copy of a row, whose values these words are.
+pub(crate) fn push_row(
+    out: &mut String,
+    at: &str,
+    front: &[&str],
+    last: &str,
+) -> Result<(), Memory> {
+    let cell = cell_of(*out.allocator(), front, last)?;
+    let at = coord_in(at);
+    let row = Row { at, cell };
+    let copy = row.copy();
     drop(row);
-    told
-}
-
-fn order_of(one: &Coord, other: &Coord) -> &'static str {
-    if one.len() != other.len() {
-        return "no order";
-    }
-    match row_major(one, other) {
-        Ordering::Less => "before",
-        Ordering::Equal => "equal",
-        Ordering::Greater => "behind",
-    }
+    let copy = copy?;
+    let at = push_coord(out, &copy.at);
+    let cell = push_cell(out, &copy.cell);
+    drop(copy);
+    at?;
+    cell
 }
 
 /// Adds how two coordinates stand to each other in an array.
 pub(crate) fn push_order(out: &mut String, one: &str, other: &str) -> Result<(), Memory> {
-    push_word(out, order_of(&coord_in(one), &coord_in(other)))
+    let (one, other) = (coord_in(one), coord_in(other));
+    if one.len() != other.len() {
+        return push_word(out, "no order");
+    }
+    let word = match row_major(&one, &other) {
+        Ordering::Less => "before",
+        Ordering::Equal => "equal",
+        Ordering::Greater => "behind",
+    };
+    push_word(out, word)
 }
 
 /// Adds whether two coordinates are the same.

@@ -29,117 +29,76 @@ impl Lists {
         }
     }
 
-    /// Begins anew, with room for so many bytes.
-    fn begin(&mut self, room: usize) -> Result<(), Memory> {
-        self.list = Bytes::with_capacity(self.taken.allocator(), room.min(1024))?;
-        Ok(())
-    }
-
-    fn insert(&mut self, at: usize, byte: u8) -> Result<(), Memory> {
-        if at <= self.list.len() {
-            self.list.insert(at, byte)?;
-        }
-        Ok(())
-    }
-
-    fn remove(&mut self, at: usize) {
-        if at < self.list.len() {
-            let _byte = self.list.remove(at);
-        }
-    }
-
-    fn set(&mut self, at: usize, byte: u8) {
-        if at < self.list.len() {
-            self.list.set(at, byte);
-        }
-    }
-
-    /// Adds a copy of what was taken.
-    fn append(&mut self) -> Result<(), Memory> {
-        let more = self.taken.copy()?;
-        self.list.append(more)
-    }
-
-    fn copy(&mut self) -> Result<(), Memory> {
-        self.taken = self.list.copy()?;
-        Ok(())
-    }
-
     /// Does a call without operands, and adds the item that it gives, if it gives one.
     fn call_plain(&mut self, out: &mut String, word: &str) -> Result<(), Memory> {
         match word {
-            "append" => self.append(),
+            "append" => {
+                let more = self.taken.copy()?;
+                self.list.append(more)
+            }
             "clear" => {
                 self.list.clear();
                 Ok(())
             }
-            "copy" => self.copy(),
-            "take" => {
-                self.taken = self.list.take();
-                Ok(())
-            }
             "pop" => push_item(out, self.list.pop()),
-            _ => Ok(()),
+            word => self.keep(word),
         }
     }
 
-    /// Does a call with one operand that gives no item.
-    fn change_with(&mut self, word: &str, operand: &str) -> Result<(), Memory> {
+    /// Copies the list, or takes all of it.
+    fn keep(&mut self, word: &str) -> Result<(), Memory> {
+        self.taken = match word {
+            "copy" => self.list.copy()?,
+            _ => self.list.take(),
+        };
+        Ok(())
+    }
+
+    /// Does a call with a place or a length, and adds the item that it gives, if it gives one.
+    fn call_at(&mut self, out: &mut String, word: &str, at: usize) -> Result<(), Memory> {
         match word {
-            "extend" => self.list.extend(operand.as_bytes()),
-            "push" => self.list.push(byte_of(operand)),
+            "begin" => self.list = Bytes::with_capacity(self.taken.allocator(), at.min(1024))?,
+            "get" => push_item(out, self.list.get(at).copied())?,
             "remove" => {
-                self.remove(place_in(operand));
-                Ok(())
+                if at < self.list.len() {
+                    let _byte = self.list.remove(at);
+                }
             }
-            _ => {
-                self.list.truncate(place_in(operand));
-                Ok(())
-            }
+            _ => self.list.truncate(at),
         }
-    }
-
-    /// Does a call with one operand, and adds the item that it gives, if it gives one.
-    fn call_with(&mut self, out: &mut String, word: &str, operand: &str) -> Result<(), Memory> {
-        match word {
-            "begin" => self.begin(place_in(operand)),
-            "get" => push_item(out, self.list.get(place_in(operand)).copied()),
-            word => self.change_with(word, operand),
-        }
+        Ok(())
     }
 
     /// Does a call with a place and a byte.
-    fn call_at(&mut self, word: &str, at: &str, byte: &str) -> Result<(), Memory> {
-        match word {
-            "insert" => self.insert(place_in(at), byte_of(byte)),
-            _ => {
-                self.set(place_in(at), byte_of(byte));
-                Ok(())
+    fn change_at(&mut self, word: &str, at: usize, byte: u8) -> Result<(), Memory> {
+        if word == "insert" {
+            if at <= self.list.len() {
+                self.list.insert(at, byte)?;
             }
+        } else if at < self.list.len() {
+            self.list.set(at, byte);
         }
+        Ok(())
     }
 
     /// Does a call, and adds the item that it gives, if it gives one.
     fn call(&mut self, out: &mut String, words: &[&str]) -> Result<(), Memory> {
         match words {
             [word] => self.call_plain(out, word),
-            [word, operand] => self.call_with(out, word, operand),
-            [word, at, byte] => self.call_at(word, at, byte),
+            ["extend", bytes] => self.list.extend(bytes.as_bytes()),
+            ["push", byte] => self.list.push(byte_of(byte)),
+            [word, at] => self.call_at(out, word, place_in(at)),
+            [word, at, byte] => self.change_at(word, place_in(at), byte_of(byte)),
             _ => Ok(()),
         }
     }
 
-    /// Adds the list, how many bytes it has and the largest, and how it stands to what was taken.
-    fn push_state(&self, out: &mut String) -> Result<(), Memory> {
+    /// Does a call, and adds what it gives, the list that it leaves, and how that stands to what was taken.
+    pub(crate) fn push_call(&mut self, out: &mut String, words: &[&str]) -> Result<(), Memory> {
+        self.call(out, words)?;
         push_list(out, self.list.as_slice())?;
         push_word(out, standing(self.list.cmp(&self.taken)))?;
         push_quoted(out, self.taken.as_slice())
-    }
-
-    /// Does a call, and adds what it gives and leaves.
-    pub(crate) fn push_call(&mut self, out: &mut String, words: &[&str]) -> Result<(), Memory> {
-        self.call(out, words)?;
-        self.push_state(out)
     }
 }
 

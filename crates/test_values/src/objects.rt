@@ -39,28 +39,8 @@ fn push_sure(out: &mut String, object: &[&str], calls: &[&str]) -> Result<(), Me
     }
 }
 
-/// Adds what an object that holds something, and fails at the listed calls, answers to calls.
+/// Adds what an object that holds something, and fails at the calls of these numbers, answers to calls.
 fn push_failing(
-    out: &mut String,
-    object: &str,
-    content: &str,
-    fails: List<u64>,
-    calls: &[&str],
-) -> Result<(), Memory> {
-    match object {
-        "source" => push_source(out, content, fails, calls),
-        "sink" => push_sink(out, content, fails, calls),
-        _ => push_disk(out, content, fails, calls),
-    }
-}
-
-fn push_failing_shelf(out: &mut String, fails: &[&str], calls: &[&str]) -> Result<(), Memory> {
-    let fails = numbers_in(*out.allocator(), fails)?;
-    push_shelf(out, fails, calls)
-}
-
-/// Adds what an object that fails at the calls of these numbers answers to calls.
-fn push_numbered(
     out: &mut String,
     object: &str,
     content: &str,
@@ -68,7 +48,11 @@ fn push_numbered(
     calls: &[&str],
 ) -> Result<(), Memory> {
     let fails = numbers_in(*out.allocator(), fails)?;
-    push_failing(out, object, content, fails, calls)
+    match object {
+        "source" => push_source(out, content, fails, calls),
+        "sink" => push_sink(out, content, fails, calls),
+        _ => push_disk(out, content, fails, calls),
+    }
 }
 
 /// Adds what an object answers to calls.
@@ -82,8 +66,8 @@ fn push_answers<S: Shelf>(
         ["count", before, now] => push_risen(out, before, now),
         ["sure", object @ ..] => push_sure(out, object, calls),
         ["real", object @ ..] => push_real(out, shelf, object, calls),
-        ["shelf", fails @ ..] => push_failing_shelf(out, fails, calls),
-        [object, content, fails @ ..] => push_numbered(out, object, content, fails, calls),
+        ["shelf", fails @ ..] => push_shelf(out, numbers_in(*out.allocator(), fails)?, calls),
+        [object, content, fails @ ..] => push_failing(out, object, content, fails, calls),
         _ => Ok(()),
     }
 }
@@ -100,13 +84,6 @@ fn push_object<S: Shelf>(
     told
 }
 
-fn push_parts<S: Shelf>(out: &mut String, shelf: &mut S, parts: &[&str]) -> Result<(), Memory> {
-    match parts {
-        [object, calls @ ..] => push_object(out, shelf, object, calls),
-        [] => Ok(()),
-    }
-}
-
 /// Adds the answer to a line.
 pub(crate) fn push_object_line<S: Shelf>(
     out: &mut String,
@@ -114,7 +91,10 @@ pub(crate) fn push_object_line<S: Shelf>(
     line: &str,
 ) -> Result<(), Memory> {
     let parts: Vec<&str> = line.split('|').collect(*out.allocator())?;
-    let told = push_parts(out, shelf, parts.as_slice());
+    let told = match parts.as_slice() {
+        [object, calls @ ..] => push_object(out, shelf, object, calls),
+        [] => Ok(()),
+    };
     drop(parts);
     told
 }

@@ -5,10 +5,10 @@ ghost use Rattle.chunk_rle.specs.Inner.Example.{example};
 use crate::show::push_chunk;
 use array_geom::Chunk;
 use array_rows::Cells;
-use cell_values::{Attribute, Bytes, ChunkAt, Dimension, Kind, List, Memory, Schema};
+use cell_values::{Attribute, ChunkAt, Dimension, Kind, List, Memory, Schema};
 use chunk_rle::{BadPayload, decode, encode};
 use std::alloc::Global;
-use test_kit::{bytes_in, cell_of, name_of, one_more, place_in, push_count, push_hex, push_word};
+use test_kit::{bytes_in, cell_of, name_of, one_more, place_in, push_hex, push_word};
 
 fn attributes(alloc: Global) -> Result<List<Attribute>, Memory>
     ensures { IfOk result (λ attributes. attributes ≡ example.attributes) }
@@ -54,15 +54,6 @@ fn first() -> ChunkAt
     at
 }
 
-/// No cells yet.
-fn empty(alloc: Global) -> Chunk {
-    Chunk {
-        at: first(),
-        positions: List::new(alloc),
-        cells: Cells::new(alloc),
-    }
-}
-
 /// Adds the cell of a word.
 fn push_placed(chunk: &mut Chunk, word: &str) -> Result<(), Memory> {
     let (place, held) = place_in(word);
@@ -78,30 +69,40 @@ fn push_all(chunk: &mut Chunk, words: &[&str]) -> Result<(), Memory> {
     Ok(())
 }
 
+/// A chunk with the cells of these words.
+pub(crate) fn chunk_in(alloc: Global, at: ChunkAt, words: &[&str]) -> Result<Chunk, Memory> {
+    let mut chunk = Chunk {
+        at,
+        positions: List::new(alloc),
+        cells: Cells::new(alloc),
+    };
+    match push_all(&mut chunk, words) {
+        Ok(()) => Ok(chunk),
+        Err(Memory) => {
+            drop(chunk);
+            Err(Memory)
+        }
+    }
+}
+
 fn push_payload(out: &mut String, chunk: &Chunk) -> Result<(), Memory> {
     let alloc = *out.allocator();
     let schema = schema(alloc)?;
     let payload = encode(alloc, &schema, chunk);
     drop(schema);
-    push_bytes(out, payload?)
-}
-
-fn push_bytes(out: &mut String, bytes: Bytes) -> Result<(), Memory> {
-    let told = push_hex(out, bytes.as_slice());
-    drop(bytes);
-    told
+    let payload = payload?;
+    let told = push_hex(out, payload.as_slice());
+    drop(payload);
+    told?;
+    push_word(out, "\n")
 }
 
 /// Adds the payload of a chunk with these cells.
 pub(crate) fn push_spelled(out: &mut String, words: &[&str]) -> Result<(), Memory> {
-    let mut chunk = empty(*out.allocator());
-    let told = match push_all(&mut chunk, words) {
-        Ok(()) => push_payload(out, &chunk),
-        Err(Memory) => Err(Memory),
-    };
+    let chunk = chunk_in(*out.allocator(), first(), words)?;
+    let told = push_payload(out, &chunk);
     drop(chunk);
-    told?;
-    push_word(out, "\n")
+    told
 }
 
 fn decoded(alloc: Global, bytes: &[u8]) -> Result<Chunk, BadPayload> {
@@ -114,28 +115,19 @@ fn decoded(alloc: Global, bytes: &[u8]) -> Result<Chunk, BadPayload> {
     }
 }
 
-fn push_wrong(out: &mut String, at: u64) -> Result<(), Memory> {
-    push_word(out, "wrong at ")?;
-    push_count(out, at)?;
-    push_word(out, "\n")
-}
-
-fn push_decoded(out: &mut String, bytes: &[u8]) -> Result<(), Memory> {
-    match decoded(*out.allocator(), bytes) {
+/// Adds the chunk of a payload, or the place of its first wrong item.
+pub(crate) fn push_read(out: &mut String, digits: &str) -> Result<(), Memory> {
+    let alloc = *out.allocator();
+    let bytes = bytes_in(alloc, digits)?;
+    let chunk = decoded(alloc, bytes.as_slice());
+    drop(bytes);
+    match chunk {
         Ok(chunk) => {
             let told = push_chunk(out, &chunk);
             drop(chunk);
             told
         }
-        Err(BadPayload::At { at }) => push_wrong(out, at),
+        Err(BadPayload::At { at }) => Ok(write!(out, "wrong at {at}\n")?),
         Err(BadPayload::Memory) => push_word(out, "no memory\n"),
     }
-}
-
-/// Adds the chunk of a payload, or the place of its first wrong item.
-pub(crate) fn push_read(out: &mut String, digits: &str) -> Result<(), Memory> {
-    let bytes = bytes_in(*out.allocator(), digits)?;
-    let told = push_decoded(out, bytes.as_slice());
-    drop(bytes);
-    told
 }

@@ -1,20 +1,22 @@
-//! Where the cells of an array of four times five places are.
+//! How chunks are spelled and read, and where their cells are.
+//!
+//! `spell 0:5 1:5` is answered by the payload of a chunk with these cells, in hexadecimal digits, and `read 0100` by the
+//! chunk of a payload or the place of its first wrong item. `place`, `frame`, `chunks`, `boxes` and `copies` call what tells
+//! places, on an array of four times five places in chunks of two times three.
 ghost use Rattle.std.specs.Prelude.{◌≡◌, [], ◌∷◌, IfOk};
 ghost use Rattle.array_rows.specs.Boxes.{corners};
 ghost use Rattle.array_geom.specs.Inner.Example.{dimension, example};
 
+use crate::payloads::{chunk_in, push_read, push_spelled};
 use crate::show::{push_box, push_chunk};
 use array_geom::{
     Boxes, Changed, Chunk, ChunkedArray, chunk_of, chunks_meeting, core_box, frame, place, position,
 };
-use array_rows::Cells;
 use cell_values::{
-    Attribute, Bounds, ChunkAt, Coord, Datum, Dimension, Kind, List, Memory, Name, Schema, coord_of,
+    Attribute, Bounds, ChunkAt, Coord, Dimension, Kind, List, Memory, Name, Schema, coord_of,
 };
 use std::alloc::Global;
-use test_kit::{
-    name_of, one_more, push_coord, push_count, push_number, push_word, push_words, truth_word,
-};
+use test_kit::{name_of, one_more, push_coord, push_number, push_word, push_words, truth_word};
 
 fn dimension(name: Name, lo: i64, hi: i64, chunk: u64) -> Dimension
     ensures { result ≡ dimension name lo hi chunk 1 }
@@ -76,13 +78,12 @@ fn at(x: i64, y: i64) -> Coord
 
 fn push_found(out: &mut String, found: &ChunkAt, number: u64, back: &Coord) -> Result<(), Memory> {
     push_number(out, found)?;
-    push_word(out, " place ")?;
-    push_count(out, number)?;
-    push_word(out, " ")?;
+    write!(out, " place {number} ")?;
     push_coord(out, back)?;
     push_word(out, "\n")
 }
 
+/// Adds the chunk of a coordinate, its place in the frame, and the coordinate of that place.
 fn push_place_in(out: &mut String, schema: &Schema) -> Result<(), Memory>
     requires { schema.now ≡ example }
 {
@@ -95,14 +96,7 @@ fn push_place_in(out: &mut String, schema: &Schema) -> Result<(), Memory>
     push_found(out, &found, number, &back)
 }
 
-/// Adds the chunk of a coordinate, its place in the frame, and the coordinate of that place.
-pub(crate) fn push_place(out: &mut String) -> Result<(), Memory> {
-    let schema = schema(*out.allocator())?;
-    let told = push_place_in(out, &schema);
-    drop(schema);
-    told
-}
-
+/// Adds the core of the last chunk, which the bounds cut, and its frame.
 fn push_frame_in(out: &mut String, schema: &Schema) -> Result<(), Memory>
     requires { schema.now ≡ example }
 {
@@ -114,25 +108,6 @@ fn push_frame_in(out: &mut String, schema: &Schema) -> Result<(), Memory>
     push_box(out, "frame", &frame)
 }
 
-/// Adds the core of the last chunk, which the bounds cut, and its frame.
-pub(crate) fn push_frame(out: &mut String) -> Result<(), Memory> {
-    let schema = schema(*out.allocator())?;
-    let told = push_frame_in(out, &schema);
-    drop(schema);
-    told
-}
-
-fn meeting(alloc: Global, schema: &Schema) -> Result<List<ChunkAt>, Memory>
-    requires { schema.now ≡ example }
-{
-    let area = Bounds {
-        lo: at(-1, 3),
-        hi: at(0, 9),
-    };
-    let listed = [numbers(0, 0), numbers(0, 1), numbers(1, 1), numbers(9, 1)];
-    chunks_meeting(alloc, schema, &area, &listed)
-}
-
 fn push_numbers(out: &mut String, numbers: &[ChunkAt]) -> Result<(), Memory> {
     for number in numbers {
         push_number(out, number)?;
@@ -140,30 +115,39 @@ fn push_numbers(out: &mut String, numbers: &[ChunkAt]) -> Result<(), Memory> {
     push_word(out, "\n")
 }
 
+/// Adds those of four chunks whose cores meet a box.
 fn push_meeting(out: &mut String, schema: &Schema) -> Result<(), Memory>
     requires { schema.now ≡ example }
 {
-    let found = meeting(*out.allocator(), schema)?;
+    let area = Bounds {
+        lo: at(-1, 3),
+        hi: at(0, 9),
+    };
+    let listed = [numbers(0, 0), numbers(0, 1), numbers(1, 1), numbers(9, 1)];
+    let found = chunks_meeting(*out.allocator(), schema, &area, &listed)?;
     let told = push_numbers(out, found.as_slice());
     drop(found);
     told
 }
 
-/// Adds those of four chunks whose cores meet a box.
-pub(crate) fn push_chunks(out: &mut String) -> Result<(), Memory> {
+/// Adds what a call on the array gives.
+fn push_places(out: &mut String, word: &str) -> Result<(), Memory> {
     let schema = schema(*out.allocator())?;
-    let told = push_meeting(out, &schema);
+    let told = match word {
+        "place" => push_place_in(out, &schema),
+        "frame" => push_frame_in(out, &schema),
+        _ => push_meeting(out, &schema),
+    };
     drop(schema);
     told
 }
 
-fn push_held(out: &mut String, area: &Bounds) -> Result<(), Memory> {
+/// Adds whether a box holds a coordinate, the box moved, and what it shares with another.
+fn push_tests(out: &mut String, area: &Bounds, moved: &Bounds) -> Result<(), Memory> {
     let last = truth_word(area.holds(&at(3, 2)));
     let behind = truth_word(area.holds(&at(3, 3)));
-    push_words(out, &[last, " ", behind, "\n"])
-}
-
-fn push_shared(out: &mut String, area: &Bounds) -> Result<(), Memory> {
+    push_words(out, &[last, " ", behind, "\n"])?;
+    push_box(out, "moved", moved)?;
     let other = Bounds {
         lo: at(0, 1),
         hi: at(2, 9),
@@ -171,41 +155,18 @@ fn push_shared(out: &mut String, area: &Bounds) -> Result<(), Memory> {
     push_box(out, "shared", &area.meet(&other))
 }
 
-/// Adds whether a box holds a coordinate, the box moved, and what it shares with another.
-pub(crate) fn push_boxes(out: &mut String) -> Result<(), Memory> {
+fn push_boxes(out: &mut String) -> Result<(), Memory> {
     let lo = at(2, 0);
     let hi = at(3, 2);
     let by = at(-2, 5);
     let area = Bounds { lo, hi };
-    push_held(out, &area)?;
     let moved = area.shift(&by);
-    push_box(out, "moved", &moved)?;
-    push_shared(out, &area)
-}
-
-fn fives(alloc: Global) -> Result<Cells, Memory> {
-    let mut cells = Cells::new(alloc);
-    match cells.push_values(&[Datum::Int(5)]) {
-        Ok(()) => Ok(cells),
-        Err(Memory) => {
-            drop(cells);
-            Err(Memory)
-        }
-    }
+    push_tests(out, &area, &moved)
 }
 
 /// One cell at place 7 of the last chunk.
-fn last(alloc: Global) -> Result<Chunk, Memory> {
-    let positions = List::from_slice(alloc, &[7])?;
-    Ok(Chunk {
-        at: numbers(1, 1),
-        positions,
-        cells: fives(alloc)?,
-    })
-}
-
 fn chunks(alloc: Global) -> Result<List<Chunk>, Memory> {
-    let chunk = last(alloc)?;
+    let chunk = chunk_in(alloc, numbers(1, 1), &["7:5"])?;
     one_more(List::new(alloc), chunk)
 }
 
@@ -218,17 +179,6 @@ fn array_of(schema: Schema, chunks: List<Chunk>) -> ChunkedArray {
     }
 }
 
-fn array(alloc: Global) -> Result<ChunkedArray, Memory> {
-    let chunks = chunks(alloc)?;
-    match schema(alloc) {
-        Ok(schema) => Ok(array_of(schema, chunks)),
-        Err(Memory) => {
-            drop(chunks);
-            Err(Memory)
-        }
-    }
-}
-
 fn push_listed(out: &mut String, chunks: &[Chunk]) -> Result<(), Memory> {
     for chunk in chunks {
         push_chunk(out, chunk)?;
@@ -236,11 +186,21 @@ fn push_listed(out: &mut String, chunks: &[Chunk]) -> Result<(), Memory> {
     Ok(())
 }
 
+/// A copy of an array of one chunk.
 fn copied_array(alloc: Global) -> Result<ChunkedArray, Memory> {
-    let array = array(alloc)?;
-    let copy = array.copy();
-    drop(array);
-    copy
+    let chunks = chunks(alloc)?;
+    match schema(alloc) {
+        Ok(schema) => {
+            let array = array_of(schema, chunks);
+            let copy = array.copy();
+            drop(array);
+            copy
+        }
+        Err(Memory) => {
+            drop(chunks);
+            Err(Memory)
+        }
+    }
 }
 
 /// A change of all chunks that are written.
@@ -252,25 +212,36 @@ fn changed(array: ChunkedArray) -> Changed {
     }
 }
 
+/// Adds the chunks of a copy of a change.
 fn push_changed(out: &mut String, changed: &Changed) -> Result<(), Memory> {
-    push_words(out, &["whole ", truth_word(changed.whole), "\n"])?;
-    push_listed(out, changed.chunks.as_slice())
-}
-
-fn push_copied(out: &mut String, changed: &Changed) -> Result<(), Memory> {
     let copy = changed.copy()?;
-    let told = push_changed(out, &copy);
+    let whole = push_words(out, &["whole ", truth_word(copy.whole), "\n"]);
+    let listed = push_listed(out, copy.chunks.as_slice());
     drop(copy);
-    told
+    whole?;
+    listed
 }
 
 /// Adds the chunks of copies of an array and of a change.
-pub(crate) fn push_copies(out: &mut String) -> Result<(), Memory> {
+fn push_copies(out: &mut String) -> Result<(), Memory> {
     let copy = copied_array(*out.allocator())?;
     let of_array = push_listed(out, copy.chunks.as_slice());
     let changed = changed(copy);
-    let of_change = push_copied(out, &changed);
+    let of_change = push_changed(out, &changed);
     drop(changed);
     of_array?;
     of_change
+}
+
+/// Adds what a call on chunks and their places gives.
+pub(crate) fn push_chunk_call(out: &mut String, words: &[&str]) -> Result<(), Memory> {
+    match words {
+        ["spell", cells @ ..] => push_spelled(out, cells),
+        ["boxes"] => push_boxes(out),
+        ["copies"] => push_copies(out),
+        ["read"] => push_read(out, ""),
+        [word] => push_places(out, word),
+        [_, digits] => push_read(out, digits),
+        _ => Ok(()),
+    }
 }

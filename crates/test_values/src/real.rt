@@ -41,11 +41,6 @@ fn push_sink<S: Shelf>(
     }
 }
 
-fn push_calls<D: Disk>(out: &mut String, disk: &mut D, calls: &[&str]) -> Result<(), Memory> {
-    push_answers(out, disk, calls)?;
-    push_faults(out, disk.faults(), disk.wants())
-}
-
 fn push_disk<S: Shelf>(
     out: &mut String,
     shelf: &mut S,
@@ -54,9 +49,11 @@ fn push_disk<S: Shelf>(
 ) -> Result<(), Memory> {
     match shelf.device(name) {
         Ok(mut disk) => {
-            let told = push_calls(out, &mut disk, calls);
+            let told = push_answers(out, &mut disk, calls);
+            let (faults, wants) = (disk.faults(), disk.wants());
             drop(disk);
-            told
+            told?;
+            push_faults(out, faults, wants)
         }
         Err(Failed) => push_word(out, "failed\n"),
     }

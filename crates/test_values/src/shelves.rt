@@ -2,8 +2,7 @@
 
 use crate::disks::push_plain;
 use crate::streams::{push_call, push_faults, push_held, push_read, push_write};
-use afl_in_memory::{MemFile, MemShelf, MemSink};
-use afl_outside::{Disk, Failed, Shelf, Source};
+use afl_outside::{Disk, Failed, MemFile, MemShelf, MemSink, Shelf, Source};
 use cell_values::{List, Memory};
 use std::alloc::Global;
 use test_kit::{push_word, words_of};
@@ -28,34 +27,20 @@ fn push_file(
     files.push(copy?)
 }
 
-fn push_files(files: &mut List<MemFile>) -> Result<(), Memory> {
-    push_file(files, b"db", b"page", &[1])?;
-    push_file(files, b"s", b"a;", &[0])
-}
-
-fn push_replies(replies: &mut List<MemFile>) -> Result<(), Memory> {
-    push_file(replies, b"s.out", b"old:", &[1])
-}
-
-/// `db` with the bytes `page`, whose call 1 fails, and `s` with `a;`, whose call 0 fails.
-fn files(alloc: Global) -> Result<List<MemFile>, Memory> {
-    let mut files = List::new(alloc);
-    match push_files(&mut files) {
-        Ok(()) => Ok(files),
-        Err(Memory) => {
-            drop(files);
-            Err(Memory)
-        }
+fn push_files(list: &mut List<MemFile>, files: &[(&str, &str, u64)]) -> Result<(), Memory> {
+    for (name, content, fail) in files {
+        push_file(list, name.as_bytes(), content.as_bytes(), &[*fail])?;
     }
+    Ok(())
 }
 
-/// The reply file `s.out` with `old:`, whose call 1 fails.
-fn replies(alloc: Global) -> Result<List<MemFile>, Memory> {
-    let mut replies = List::new(alloc);
-    match push_replies(&mut replies) {
-        Ok(()) => Ok(replies),
+/// Files with a name, a content, and the number of the call that is to fail.
+fn files_of(alloc: Global, files: &[(&str, &str, u64)]) -> Result<List<MemFile>, Memory> {
+    let mut list = List::new(alloc);
+    match push_files(&mut list, files) {
+        Ok(()) => Ok(list),
         Err(Memory) => {
-            drop(replies);
+            drop(list);
             Err(Memory)
         }
     }
@@ -147,26 +132,24 @@ fn push_opened(out: &mut String, shelf: &mut MemShelf, words: &[&str]) -> Result
     }
 }
 
-fn push_line(out: &mut String, shelf: &mut MemShelf, call: &str) -> Result<(), Memory> {
-    let words = words_of(*out.allocator(), call)?;
-    let told = push_opened(out, shelf, words.as_slice());
-    drop(words);
-    told?;
-    push_word(out, "\n")
-}
-
 fn push_lines(out: &mut String, shelf: &mut MemShelf, calls: &[&str]) -> Result<(), Memory> {
     for call in calls {
         push_call(out, call)?;
-        push_line(out, shelf, call)?;
+        let words = words_of(*out.allocator(), call)?;
+        let told = push_opened(out, shelf, words.as_slice());
+        drop(words);
+        told?;
+        push_word(out, "\n")?;
     }
     push_faults(out, shelf.faults(), shelf.wants())
 }
 
-/// Adds what a shelf of three files answers to calls.
+/// Adds what a shelf answers to calls: with the file `db` of the bytes `page`, whose call 1 fails, `s` with `a;`, whose call 0
+/// fails, and the reply `s.out` with `old:`, whose call 1 fails.
 pub(crate) fn push_shelf(out: &mut String, fails: List<u64>, calls: &[&str]) -> Result<(), Memory> {
-    let files = files(*out.allocator())?;
-    let replies = replies(*out.allocator())?;
+    let alloc = *out.allocator();
+    let files = files_of(alloc, &[("db", "page", 1), ("s", "a;", 0)])?;
+    let replies = files_of(alloc, &[("s.out", "old:", 1)])?;
     let mut shelf = MemShelf::new(files, replies, fails);
     let told = push_lines(out, &mut shelf, calls);
     drop(shelf);

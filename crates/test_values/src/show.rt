@@ -1,17 +1,13 @@
 //! What is told of boxes and chunks.
 
 use array_geom::Chunk;
-use cell_values::{Bounds, Cell, List, Memory};
+use cell_values::{Bounds, Memory};
 use test_kit::{push_coord, push_word, push_words};
-
-fn cells_of(chunk: &Chunk) -> Result<List<Cell>, Memory> {
-    let copy = chunk.cells.copy()?;
-    copy.into_list()
-}
 
 /// Adds a chunk's number, and what it holds at each of its positions.
 pub(crate) fn push_chunk(out: &mut String, chunk: &Chunk) -> Result<(), Memory> {
-    let cells = cells_of(chunk)?;
+    let copy = chunk.cells.copy()?;
+    let cells = copy.into_list()?;
     let told = test_kit::push_chunk(out, &chunk.at, chunk.positions.as_slice(), cells.as_slice());
     drop(cells);
     told

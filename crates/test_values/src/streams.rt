@@ -1,9 +1,8 @@
 //! Sources and sinks.
 
-use afl_in_memory::{MemSink, MemSource, SureSink, SureSource};
-use afl_outside::{Failed, Sink, Source};
+use afl_outside::{Failed, MemSink, MemSource, Sink, Source, SureSink, SureSource};
 use cell_values::{Bytes, List, Memory};
-use test_kit::{push_count, push_quoted, push_text, push_word, push_words};
+use test_kit::{push_quoted, push_text, push_word, push_words};
 
 /// Adds the call that an answer belongs to.
 pub(crate) fn push_call(out: &mut String, call: &str) -> Result<(), Memory> {
@@ -12,10 +11,7 @@ pub(crate) fn push_call(out: &mut String, call: &str) -> Result<(), Memory> {
 
 /// Adds how often calls failed, and how often there was no memory for one.
 pub(crate) fn push_faults(out: &mut String, faults: u64, wants: u64) -> Result<(), Memory> {
-    push_count(out, faults)?;
-    push_word(out, " failed, ")?;
-    push_count(out, wants)?;
-    push_word(out, " without memory\n")
+    Ok(write!(out, "{faults} failed, {wants} without memory\n")?)
 }
 
 /// Adds what a read of so many bytes gives, eight at most.
@@ -39,18 +35,9 @@ pub(crate) fn push_write<S: Sink>(
     bytes: &str,
 ) -> Result<(), Memory> {
     match sink.write(bytes.trim().as_bytes()) {
-        Ok(taken) => {
-            push_count(out, taken as u64)?;
-            push_word(out, " taken")
-        }
+        Ok(taken) => Ok(write!(out, "{taken} taken")?),
         Err(Failed) => push_word(out, "failed"),
     }
-}
-
-fn push_read_line<S: Source>(out: &mut String, source: &mut S, call: &str) -> Result<(), Memory> {
-    push_call(out, call)?;
-    push_read(out, source, call.trim().strip_prefix("read").unwrap_or(""))?;
-    push_word(out, "\n")
 }
 
 /// Adds what a source answers to calls.
@@ -60,16 +47,11 @@ pub(crate) fn push_reads<S: Source>(
     calls: &[&str],
 ) -> Result<(), Memory> {
     for call in calls {
-        push_read_line(out, source, call)?;
+        push_call(out, call)?;
+        push_read(out, source, call.trim().strip_prefix("read").unwrap_or(""))?;
+        push_word(out, "\n")?;
     }
-    push_count(out, source.faults())?;
-    push_word(out, " failed\n")
-}
-
-fn push_write_line<S: Sink>(out: &mut String, sink: &mut S, call: &str) -> Result<(), Memory> {
-    push_call(out, call)?;
-    push_write(out, sink, call.trim().strip_prefix("write").unwrap_or(""))?;
-    push_word(out, "\n")
+    Ok(write!(out, "{} failed\n", source.faults())?)
 }
 
 /// Adds what a sink answers to calls.
@@ -79,7 +61,9 @@ pub(crate) fn push_writes<S: Sink>(
     calls: &[&str],
 ) -> Result<(), Memory> {
     for call in calls {
-        push_write_line(out, sink, call)?;
+        push_call(out, call)?;
+        push_write(out, sink, call.trim().strip_prefix("write").unwrap_or(""))?;
+        push_word(out, "\n")?;
     }
     push_faults(out, sink.faults(), sink.wants())
 }
@@ -111,12 +95,6 @@ pub(crate) fn push_sure_source(
     push_reads(out, &mut SureSource::new(content), calls)
 }
 
-fn push_sink_calls(out: &mut String, sink: &mut MemSink, calls: &[&str]) -> Result<(), Memory> {
-    push_writes(out, sink, calls)?;
-    push_held(out, sink.bytes())?;
-    push_word(out, "\n")
-}
-
 /// Adds what a sink in memory answers to calls, and what it holds.
 pub(crate) fn push_sink(
     out: &mut String,
@@ -125,12 +103,12 @@ pub(crate) fn push_sink(
     calls: &[&str],
 ) -> Result<(), Memory> {
     let content = Bytes::from_slice(*out.allocator(), content.as_bytes())?;
-    push_sink_calls(out, &mut MemSink::new(content, fails), calls)
-}
-
-fn push_sure_calls(out: &mut String, sink: &mut SureSink, calls: &[&str]) -> Result<(), Memory> {
-    push_writes(out, sink, calls)?;
-    push_held(out, sink.bytes())?;
+    let mut sink = MemSink::new(content, fails);
+    let told = push_writes(out, &mut sink, calls);
+    let held = push_held(out, sink.bytes());
+    drop(sink);
+    told?;
+    held?;
     push_word(out, "\n")
 }
 
@@ -141,5 +119,11 @@ pub(crate) fn push_sure_sink(
     calls: &[&str],
 ) -> Result<(), Memory> {
     let content = Bytes::from_slice(*out.allocator(), content.as_bytes())?;
-    push_sure_calls(out, &mut SureSink::new(content), calls)
+    let mut sink = SureSink::new(content);
+    let told = push_writes(out, &mut sink, calls);
+    let held = push_held(out, sink.bytes());
+    drop(sink);
+    told?;
+    held?;
+    push_word(out, "\n")
 }

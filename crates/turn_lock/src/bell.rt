@@ -16,7 +16,7 @@ pub struct Bell {
 }
 
 /// Why a wait for a bell ended.
-#[derive(Debug, Clone, Copy, PartialEq, Eq)]
+#[derive(Clone, Copy)]
 pub enum Ring {
     Rung,
     Closed,

@@ -23,8 +23,8 @@ use Rattle.logical_plan.specs.declared.parts.Reach.{Reach}
 use Rattle.logical_plan.specs.Groups.{aggregate_of, cells_of, window, window_cell, window_rows}
 use Rattle.logical_plan.specs.PlanSchema.{aggregate_kind, window_schema}
 use Rattle.logical_plan.specs.Typing.{is_aggregate_of, are_aggregates_of, are_windows_of, kinds_of, window_size, reached_size}
-use Rattle.exec_group.proofs.KindLaws.{aggregate_has_kind, kinds_for}
-use Rattle.exec_group.proofs.InsideLaws.{kinds_told}
+use Rattle.group_rows.proofs.KindLaws.{aggregate_has_kind, kinds_for}
+use Rattle.group_rows.proofs.InsideLaws.{kinds_told}
 use Rattle.window_overlap.specs.Reaches.{AreShort, HaveLowPlaces, CanAggregate}
 use Rattle.window_overlap.proofs.PartLaws.{low_places}
 use Rattle.window_overlap.proofs.ChunksWindowLaws.{part_no_longer}

@@ -16,7 +16,7 @@ use Rattle.array_rows.specs.Boxes.{is_between, is_inside, within}
 use Rattle.array_rows.specs.Rows.{Coordinate, row_major, IsBefore, IsRising}
 use Rattle.array_rows.proofs.RowsLemmas.{row_major_total}
 use Rattle.array_geom.proofs.TestLaws.{and_parts, le_from_test}
-use Rattle.exec_group.proofs.RowLemmas.{turned}
+use Rattle.group_rows.proofs.RowLemmas.{turned}
 use Rattle.window_overlap.specs.Inner.Skips.{AreBefore, IsFrom, Follows, begins_outside}
 
 -- ---- coordinates that do not come before others, by their first numbers

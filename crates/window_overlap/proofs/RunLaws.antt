@@ -7,7 +7,7 @@ use Rattle.cell_values.specs.declared.datum.Row.{Row}
 use Rattle.cell_values.specs.declared.schema.Bounds.{Bounds}
 use Rattle.array_rows.specs.Boxes.{is_inside, within}
 use Rattle.array_rows.specs.Rows.{IsRising}
-use Rattle.exec_group.proofs.RowLemmas.{rising_right}
+use Rattle.group_rows.proofs.RowLemmas.{rising_right}
 use Rattle.window_overlap.specs.declared.chunks.runs.Run.{Run}
 use Rattle.window_overlap.specs.Inner.Runs.{rows_of}
 use Rattle.window_overlap.specs.Inner.Skips.{begins_outside}

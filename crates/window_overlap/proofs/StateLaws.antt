@@ -13,7 +13,7 @@ use Rattle.logical_plan.specs.Groups.{aggregate_of, cells_of}
 use Rattle.logical_plan.specs.Typing.{is_aggregate_of}
 use Rattle.agg_states.specs.Stands.{StandsFor}
 use Rattle.agg_states.specs.Inner.Summary.{Summary}
-use Rattle.exec_group.proofs.RowLemmas.{put_last, free_last, rising_left}
+use Rattle.group_rows.proofs.RowLemmas.{put_last, free_last, rising_left}
 use Rattle.window_overlap.specs.declared.chunks.runs.Run.{Run}
 use Rattle.window_overlap.specs.Reaches.{CanAggregate}
 use Rattle.window_overlap.specs.Inner.Runs.{rows_of}

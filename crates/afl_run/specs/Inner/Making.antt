@@ -3,8 +3,8 @@ use Rattle.std.specs.Prelude.{◌≡◌, ◌≢◌, ℕ, List, length, Some, IfS
 use Rattle.afl_outside.specs.Counts.{Rose}
 use Rattle.afl_outside.specs.Disk.{Moment, Only}
 use Rattle.page_file.specs.Start.{IsEmptyDatabase}
-use Rattle.session_reports.specs.declared.notices.Notice.{Notice}
-use Rattle.session_reports.specs.declared.notices.Notice.TheVariants.{Done, Disk, Memory, NotEmpty}
+use Rattle.run_opening.specs.declared.reports.notices.Notice.{Notice}
+use Rattle.run_opening.specs.declared.reports.notices.Notice.TheVariants.{Done, Disk, Memory, NotEmpty}
 
 -- from one moment of a disk to another it was made a database, or not, for the reason that the notice tells
 abbrev pub Makes : Notice → Moment → Moment → Type 0

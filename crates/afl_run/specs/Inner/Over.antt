@@ -10,9 +10,9 @@ use Rattle.run_opening.specs.Starts.{start_of}
 use Rattle.run_opening.specs.Began.{BeganOver, TellsUnopened}
 use Rattle.run_opening.specs.Ends.{EndsWith}
 use Rattle.run_opening.specs.declared.stores.closing.StoreRun.{StoreRun}
-use Rattle.session_reports.specs.Outcomes.{notice_of}
-use Rattle.session_reports.specs.declared.notices.Notice.TheVariants.{Damaged, Disk, Memory}
-use Rattle.session_reports.specs.declared.reports.Streams.{Streams}
+use Rattle.run_opening.specs.Outcomes.{notice_of}
+use Rattle.run_opening.specs.declared.reports.notices.Notice.TheVariants.{Damaged, Disk, Memory}
+use Rattle.run_opening.specs.declared.reports.reports.Streams.{Streams}
 use Rattle.turn_lock.specs.Owners.{AreOwnedBelow}
 use Rattle.session_threads.specs.Sessions.{AreSessionsOf}
 use Rattle.session_threads.specs.Style.{Style}

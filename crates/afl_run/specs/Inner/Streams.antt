@@ -8,8 +8,8 @@ use Rattle.event_core.specs.declared.entry.Entry.{Entry}
 use Rattle.store_state.specs.Standings.{Standing}
 use Rattle.run_opening.specs.Names.{Word, stream_names}
 use Rattle.run_opening.specs.Opened.{HandsOut, LeavesUnasked, StopsAt}
-use Rattle.session_reports.specs.declared.reports.SessionReport.{SessionReport}
-use Rattle.session_reports.specs.declared.notices.Notice.{Notice}
+use Rattle.run_opening.specs.declared.reports.reports.SessionReport.{SessionReport}
+use Rattle.run_opening.specs.declared.reports.notices.Notice.{Notice}
 use Rattle.session_threads.specs.Style.{Style}
 use Rattle.afl_run.specs.OneHistory.{IsOneHistory}
 use Rattle.afl_run.specs.Run.{AreOfScripts, BeganFrom, HandsOutStreams, IsOfStore, TellsSessions, TellsUnrun, state_in}

@@ -7,13 +7,13 @@ use Rattle.afl_outside.specs.Sink.{SinkState, Takes}
 use Rattle.store_state.specs.declared.state.event.Event.{Event}
 use Rattle.afl_session.specs.declared.replies.reply.Reply.{Reply}
 use Rattle.afl_session.specs.Session.{AnswerRule, AnswersAll, AnswersFront, LeavesOne, Replies}
-use Rattle.session_reports.specs.declared.reports.Mark.{Mark}
+use Rattle.run_opening.specs.declared.reports.reports.Mark.{Mark}
 use Rattle.afl_session.specs.declared.scripts.streams.Stopped.{Stopped}
 use Rattle.afl_session.specs.declared.scripts.streams.Stopped.TheVariants.{Fault}
 use Rattle.afl_session.specs.declared.scripts.streams.Stopped.TheVariants as causes
-use Rattle.session_reports.specs.declared.reports.SessionEnd.{SessionEnd}
-use Rattle.session_reports.specs.declared.reports.SessionEnd.TheVariants as ends
-use Rattle.session_reports.specs.declared.reports.SessionEnd.TheVariants.{Sink}
+use Rattle.run_opening.specs.declared.reports.reports.SessionEnd.{SessionEnd}
+use Rattle.run_opening.specs.declared.reports.reports.SessionEnd.TheVariants as ends
+use Rattle.run_opening.specs.declared.reports.reports.SessionEnd.TheVariants.{Sink}
 
 abbrev pub statement_at : ℕ → ℕ → Option (List ℕ) → Statement
 statement_at start end text = record { start = start; end = end; text = text }

@@ -12,14 +12,14 @@ use Rattle.store_ledger.specs.Ledger.{is_fault, is_noted}
 use Rattle.store_state.specs.declared.state.event.Event.{Event}
 use Rattle.afl_session.specs.Acts.{acts_in}
 use Rattle.afl_session.specs.BehindPins.{ComesOver}
-use Rattle.session_sources.specs.Start.{Start}
+use Rattle.snapshot_manager.specs.Start.{Start}
 use Rattle.afl_session.specs.Under.{SaysWhy}
-use Rattle.session_sources.specs.declared.marks.Marks.{Marks}
-use Rattle.session_sources.specs.Courses.{AddsOwn}
-use Rattle.session_sources.specs.Pinned.{pinned_state, reading_of, unread, HasRead}
-use Rattle.session_sources.specs.Seat.{Seat}
-use Rattle.session_sources.specs.Shared.{Shared}
-use Rattle.session_sources.specs.Told.{ledger_of}
+use Rattle.snapshot_manager.specs.declared.sources.marks.Marks.{Marks}
+use Rattle.snapshot_manager.specs.Courses.{AddsOwn}
+use Rattle.snapshot_manager.specs.Pinned.{pinned_state, reading_of, unread, HasRead}
+use Rattle.snapshot_manager.specs.declared.seat.Seat.{Seat}
+use Rattle.snapshot_manager.specs.declared.shared.Shared.{Shared}
+use Rattle.snapshot_manager.specs.Told.{ledger_of}
 
 -- a statement was read over what a pin sees, from one seat to the next: this came of it, for which all that it reads was asked for once; or this
 -- is why nothing did

@@ -12,22 +12,22 @@ use Rattle.statement_replies.specs.declared.answers.outcome.Outcome.TheVariants.
 use Rattle.statement_replies.specs.Outcomes.{MayFail}
 use Rattle.statement_replies.specs.declared.replies.replies.Reply.{Reply as Told}
 use Rattle.statement_replies.specs.declared.replies.style.Style.{Style}
-use Rattle.session_sources.specs.Owners.{ExtendsByOwn}
-use Rattle.session_sources.specs.Turn.{Turn}
+use Rattle.snapshot_manager.specs.Owners.{ExtendsByOwn}
+use Rattle.snapshot_manager.specs.Turn.{Turn}
 use Rattle.store_state.specs.declared.state.parts.StoreParts.{StoreParts}
 use Rattle.store_state.specs.At.{standing}
 use Rattle.event_core.specs.Bases.{sequence_at}
 use Rattle.store_state.specs.Calls.{history_at}
 use Rattle.store_state.specs.Events.{events, owner_of}
 use Rattle.store_state.specs.Standings.{base_of, Standing}
-use Rattle.session_sources.specs.Tried.{AddsSealed, AddsTried}
-use Rattle.session_sources.specs.Causes.{FitsAfter, IsUncommitted}
-use Rattle.session_sources.specs.CommitFault.{CommitFault}
-use Rattle.session_sources.specs.Starts.{start_of}
-use Rattle.session_sources.specs.Seat.{Seat}
-use Rattle.session_sources.specs.Seats.{store_of, HasTurn}
-use Rattle.session_sources.specs.Held.{held_state, holding_of, names_now, unheld, HasHeld}
-use Rattle.session_sources.specs.declared.marks.Marks.{Marks}
+use Rattle.snapshot_manager.specs.Tried.{AddsSealed, AddsTried}
+use Rattle.snapshot_manager.specs.Causes.{FitsAfter, IsUncommitted}
+use Rattle.snapshot_manager.specs.CommitFault.{CommitFault}
+use Rattle.snapshot_manager.specs.Starts.{start_of}
+use Rattle.snapshot_manager.specs.declared.seat.Seat.{Seat}
+use Rattle.snapshot_manager.specs.Seats.{store_of, HasTurn}
+use Rattle.snapshot_manager.specs.Held.{held_state, holding_of, names_now, unheld, HasHeld}
+use Rattle.snapshot_manager.specs.declared.sources.marks.Marks.{Marks}
 use Rattle.afl_session.specs.Refusals.{IsUncommittedReply, IsUnreadReply, IsWant}
 use Rattle.afl_session.specs.BehindPins.{ComesOver}
 use Rattle.afl_session.specs.Replies.{words_of}

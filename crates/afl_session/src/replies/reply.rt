@@ -11,7 +11,7 @@ use statement_replies::{Reply as Words, refuse};
 use std::alloc::Global;
 
 /// What a statement is answered.
-#[derive(Debug, Drop)]
+#[derive(Drop)]
 pub struct Reply {
     pub text: Bytes,
     pub refusal: Option<Refusal>,

@@ -1,7 +1,7 @@
 //! A session, from the bytes of its script to the texts of its replies.
 ghost use Rattle.std.specs.Prelude.{◌≡◌, ℕ, List, [], ◌++◌, ◌+◌, ◌<◌, ◌≤◌, ◌^◌, length, MatchResult};
 ghost use Rattle.afl_lexer.specs.Inner.Standing.{StandsAfter, told};
-ghost use Rattle.session_sources.specs.Seats.{last_place, seen, session_of, start, HoldsNone, IsIdle, IsSeatOf};
+ghost use Rattle.snapshot_manager.specs.Seats.{last_place, seen, session_of, start, HoldsNone, IsIdle, IsSeatOf};
 ghost use Rattle.afl_session.specs.Inner.Serving.{EndsServing, GoesOn, IsServing, Reached, StopsWithin, end_of, reached};
 ghost use Rattle.afl_session.specs.Marked.{IsMarked};
 ghost use Rattle.afl_session.specs.Session.{Serves};
@@ -12,8 +12,8 @@ use crate::turns::Options;
 use afl_lexer::{SplitStep, Splitter};
 use afl_outside::{Disk, Failed, Gate, Sink, Source};
 use cell_values::List;
-use session_reports::{Mark, SessionEnd, SessionReport};
-use session_sources::{Seat, Shared};
+use run_opening::{Mark, SessionEnd, SessionReport};
+use snapshot_manager::{Seat, Shared};
 use std::alloc::Global;
 use std::sync::Wait;
 use std::thread::Threads;

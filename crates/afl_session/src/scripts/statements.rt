@@ -2,10 +2,10 @@
 ghost use Rattle.std.specs.Prelude.{◌≡◌, ℕ, [], ◌∷◌, ◌++◌, ◌-◌, ◌<◌, ◌≤◌, length, option_map, take, vec_capacity, vec_len, IfSome, IsErrOf, OnErr, OnOk};
 ghost use Rattle.afl_outside.specs.Counts.{Rose};
 ghost use Rattle.afl_outside.specs.Sink.{Takes};
-ghost use Rattle.session_sources.specs.Seats.{last_place, seen, session_of, start, HoldsNone, IsIdle, IsSeatOf};
+ghost use Rattle.snapshot_manager.specs.Seats.{last_place, seen, session_of, start, HoldsNone, IsIdle, IsSeatOf};
 ghost use Rattle.afl_session.specs.Inner.Serving.{GoesOn, mark_at, reached, statement_at};
 ghost use Rattle.afl_session.specs.Marked.{AnswersText, IsMarked, IsReplyOf, IsTooLongReply, written_for};
-ghost use Rattle.session_reports.specs.Outcomes.{is_want};
+ghost use Rattle.run_opening.specs.Outcomes.{is_want};
 
 use crate::answers::answer;
 use crate::replies::{Reply, refusal_or_want};
@@ -13,8 +13,8 @@ use crate::scripts::streams::{Stopped, write_whole};
 use crate::turns::Options;
 use afl_outside::{Disk, Gate, Sink};
 use result_print::Refusal;
-use session_reports::Mark;
-use session_sources::{Seat, Shared};
+use run_opening::Mark;
+use snapshot_manager::{Seat, Shared};
 use std::alloc::{AllocError, Global};
 use std::sync::Wait;
 use std::thread::Threads;

@@ -6,7 +6,7 @@ ghost use Rattle.afl_outside.specs.Sink.{Takes};
 use afl_outside::{Failed, Sink, has_risen};
 
 /// Why a session goes no further.
-#[derive(Clone, Copy, Debug, PartialEq, Eq)]
+#[derive(Clone, Copy)]
 pub(crate) enum Stopped {
     /// Its sink failed.
     Fault,

@@ -3,7 +3,7 @@
 use statement_replies::Style;
 
 /// What holds of all statements of a session.
-#[derive(Clone, Copy, Debug)]
+#[derive(Clone, Copy)]
 pub struct Options {
     /// How many threads compute a statement: 1 to 64.
     pub workers: u32,

@@ -9,7 +9,7 @@ use array_geom::Rows;
 use cell_values::{Cell, Coord, Memory};
 
 /// What is known of a cell's change without its coordinate and without a list of its values.
-#[derive(Clone, Copy, Debug)]
+#[derive(Clone, Copy)]
 pub enum Quick {
     /// It stays as it is.
     Stays,

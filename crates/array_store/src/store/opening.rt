@@ -1,6 +1,6 @@
 //! How a store is opened.
 ghost use Rattle.std.specs.Prelude.{◌≡◌, ℕ, List, IfSome, IfOk, IfErr, MatchResult};
-ghost use Rattle.page_slots.specs.Puts.{OnlySyncs};
+ghost use Rattle.page_chain.specs.Puts.{OnlySyncs};
 ghost use Rattle.plan_changes.specs.Databases.{Database};
 ghost use Rattle.file_meaning.specs.Standing.{Stands};
 ghost use Rattle.store_opening.specs.At.{standing};

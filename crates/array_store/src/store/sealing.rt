@@ -5,7 +5,7 @@ ghost use Rattle.array_geom.specs.declared.chunk.Changed.{Changed};
 ghost use Rattle.plan_changes.specs.Databases.{Database, after};
 ghost use Rattle.event_core.specs.Cells.{at};
 ghost use Rattle.file_meaning.specs.Standing.{Stands};
-ghost use Rattle.commit_writes.specs.declared.stopped.Stopped.{Stopped};
+ghost use Rattle.page_file.specs.declared.commits.stopped.Stopped.{Stopped};
 ghost use Rattle.store_ledger.specs.Ledger.{history};
 ghost use Rattle.store_opening.specs.At.{keeping, standing};
 ghost use Rattle.store_opening.specs.Calls.{NotesFault};

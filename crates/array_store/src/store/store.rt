@@ -15,7 +15,7 @@ use logical_plan::Names;
 use prepared_commits::{let_go_catalog, let_go_doubt, let_go_table};
 use std::marker::Model;
 use std::snapshot::Snapshot;
-use store_ledger::Ledger;
+use store_ledger::{Ledger, let_go_seen};
 use store_opening::{Event, StoreParts};
 use turn_lock::History;
 
@@ -62,12 +62,7 @@ impl<D: Disk> History for Store<D> {
     }
 }
 
-/// Lets go what was seen. It may be anything, so that nothing of a store has to be let go for it.
-fn let_go_seen<T>(seen: Snapshot<T>) {
-    drop(seen);
-}
-
-/// Lets all that go that was seen.
+/// Lets all that go that was seen. It may be anything, so that nothing of a store has to be let go for it.
 fn let_go_all_seen<T>(seen: Vec<Snapshot<T>>) {
     drop(seen);
 }

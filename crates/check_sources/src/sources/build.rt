@@ -12,8 +12,7 @@ ghost use Rattle.check_sources.specs.Build.{meant, built_of, built_within, built
 use afl_trees::{Node, Tree};
 use cell_values::{Dimension, Kind, List, Schema, Span};
 use check_exprs::{Operand, fits, typed};
-use check_literals::literal_rows;
-use check_rules::{TypeFault, broken, is_expression, wrong_type};
+use check_rules::{TypeFault, broken, is_expression, literal_rows, wrong_type};
 use expr_nulls::let_go_expr;
 use logical_plan::Plan;
 use schema_grammar::{SchemaText, TypeKind, meaning};

@@ -7,7 +7,7 @@ use cell_values::List;
 use std::marker::Model;
 
 /// The numbers of the calls that are to fail, and the counts of calls and of faults.
-#[derive(Debug, Drop)]
+#[derive(Drop)]
 pub(crate) struct FailingCalls {
     fails: List<u64>,
     calls: u64,

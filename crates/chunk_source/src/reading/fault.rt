@@ -6,7 +6,7 @@ use crate::sources::SourceFault;
 use cell_values::Memory;
 
 /// Why a plan gave no array.
-#[derive(Clone, Copy, Debug, PartialEq, Eq)]
+#[derive(Clone, Copy)]
 pub enum ExecFault {
     /// The source could not be read.
     Source,

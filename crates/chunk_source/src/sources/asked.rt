@@ -4,7 +4,7 @@ ghost use Rattle.std.specs.Prelude.{◌≡◌, IsOk, IfOk};
 use cell_values::{ChunkAt, Copies, Memory, copy_numbers};
 
 /// A chunk that was asked for, and for which of a plan's leaves, which count from 0.
-#[derive(Debug, Drop)]
+#[derive(Drop)]
 pub struct Asked {
     pub leaf: u32,
     pub at: ChunkAt,

@@ -10,7 +10,7 @@ use crate::words::scripts::{is_dashed, wrong_script};
 use crate::words::settings::{MAX_WORKERS, Settings, number_within, script_number};
 
 /// What a run prints of arrays.
-#[derive(Clone, Copy, Debug)]
+#[derive(Clone, Copy)]
 pub struct Printing {
     /// Their cells are records of CSV.
     pub csv: bool,
@@ -19,7 +19,7 @@ pub struct Printing {
 }
 
 /// A form of words. Each `device` and `scripts` is a place among the words, from 0.
-#[derive(Clone, Copy, Debug)]
+#[derive(Clone, Copy)]
 pub enum Form {
     /// `try`
     Try,

@@ -7,7 +7,7 @@ use Rattle.chunk_map.specs.declared.directory.Directory.{Directory}
 use Rattle.file_meaning.specs.Standing.{stored_chunk}
 use Rattle.commit_pages.specs.Costs.{catalog_of, payload_length}
 use Rattle.commit_pages.specs.Inner.Examples.{schema, cell_at, stored, insert_at}
-use Rattle.commit_writes.specs.Commits.{pages_of}
+use Rattle.page_file.specs.Commits.{pages_of}
 use Rattle.commit_pages.specs.declared.pages.laid.Laid.{Laid}
 use Rattle.commit_pages.specs.Versions.{draft_of}
 use Rattle.commit_pages.specs.Commits.{record_needs, record_laid}

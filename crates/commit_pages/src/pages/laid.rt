@@ -6,7 +6,7 @@ ghost use Rattle.chunk_map.specs.Spelling.{IsDirectory};
 ghost use Rattle.plan_changes.specs.Allowed.{names_allow};
 ghost use Rattle.file_meaning.specs.Catalogs.{names_in};
 ghost use Rattle.file_meaning.specs.Changed.{after_change, has_its_directory, IsItsBlob};
-ghost use Rattle.commit_writes.specs.Commits.{base_pages, commit_pages, IsBlobSized, IsChainSized};
+ghost use Rattle.page_file.specs.Commits.{base_pages, commit_pages, IsBlobSized, IsChainSized};
 ghost use Rattle.commit_pages.specs.Versions.{new_version, HasRisingNumbers, IsWritten, CanBeListed};
 ghost use Rattle.event_core.specs.Apart.{makes_version};
 ghost use Rattle.std.specs.Option.{is_some};
@@ -19,9 +19,9 @@ use crate::pages::version::{NewVersion, new_version};
 use crate::pages::written::{chain_count, first_pages, pages_behind};
 use cell_values::{Bytes, List, Memory};
 use chunk_map::Directory;
-use commit_writes::Placed;
 use event_core::Used;
 use file_meaning::{BlobAt, Catalog, with_change};
+use page_file::Placed;
 use plan_changes::Change;
 use std::alloc::Global;
 
@@ -47,6 +47,12 @@ struct Next {
     chain: Placed,
     catalog: Catalog,
     pages: List<u32>,
+}
+
+/// Lets go what a commit writes.
+pub fn let_go_pages(blobs: List<Placed>, chain: Placed) {
+    drop(blobs);
+    drop(chain);
 }
 
 /// Bytes in the first of these pages, as a chain.

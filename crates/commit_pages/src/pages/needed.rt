@@ -5,7 +5,7 @@ ghost use Rattle.plan_changes.specs.Allowed.{names_allow};
 ghost use Rattle.file_meaning.specs.Catalogs.{names_in};
 ghost use Rattle.file_meaning.specs.Spelling.{spell_record, spelling};
 ghost use Rattle.file_meaning.specs.Changed.{has_its_directory};
-ghost use Rattle.commit_writes.specs.Commits.{pages_of};
+ghost use Rattle.page_file.specs.Commits.{pages_of};
 ghost use Rattle.event_core.specs.Apart.{makes_version};
 ghost use Rattle.std.specs.Option.{is_some};
 ghost use Rattle.commit_pages.specs.Versions.{blob_at, drafted, directory_bytes, draft_at, count_at, payload_count, version_needs, HasRisingNumbers};
@@ -16,9 +16,11 @@ use crate::pages::version::directory_bytes;
 use crate::pages::written::drafted_pages;
 use cell_values::{Bytes, Memory};
 use chunk_map::Directory;
-use commit_writes::Placed;
-use file_meaning::{BlobAt, Catalog, encode_catalog, encode_record, record_of, with_change};
+use file_meaning::{
+    BlobAt, Catalog, encode_catalog, encode_record, let_go_catalog, record_of, with_change,
+};
 use page_chain::chain_pages;
+use page_file::Placed;
 use plan_changes::Change;
 use std::alloc::Global;
 
@@ -157,11 +159,11 @@ pub(crate) fn catalog_bytes(
     let next = with_change(catalog, change, at)?;
     match encode_catalog(alloc, &next) {
         Ok(bytes) => {
-            drop(next);
+            let_go_catalog(next);
             Ok(bytes)
         }
         Err(Memory) => {
-            drop(next);
+            let_go_catalog(next);
             Err(Memory)
         }
     }

@@ -12,8 +12,8 @@ use crate::pages::Written;
 use crate::pages::written::{blob_count, first_pages, pages_behind, settle_all};
 use cell_values::{Bytes, ChunkAt, List, MAX_DIMENSIONS, Memory, copy_numbers};
 use chunk_map::{DirEntry, Directory, encode_directory, replaced};
-use commit_writes::Placed;
 use file_meaning::BlobAt;
+use page_file::Placed;
 use std::alloc::Global;
 
 /// What a version adds to a file.

@@ -10,8 +10,8 @@ ghost use Rattle.commit_pages.specs.Versions.{blob_count, placed, all_placed, dr
 use array_geom::{Changed, Chunk};
 use cell_values::{Bytes, ChunkAt, List, Memory, Schema, copy_numbers};
 use chunk_rle::encode;
-use commit_writes::Placed;
 use page_chain::{blob_pages, chain_pages};
+use page_file::Placed;
 use std::alloc::Global;
 
 /// The chunks that a change writes: their numbers, and their payloads in as many pages as these need.
@@ -23,6 +23,11 @@ pub struct Written {
     pub birth: u64,
     pub numbers: List<ChunkAt>,
     pub payloads: List<Placed>,
+}
+
+/// Lets the spelled chunks of a change go.
+pub fn let_go_written(written: Option<Written>) {
+    drop(written);
 }
 
 /// How many pages some bytes need as a blob.

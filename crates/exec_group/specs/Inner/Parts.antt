@@ -2,11 +2,11 @@
 use Rattle.std.specs.Prelude.{ℕ, ◌+◌, ◌≤◌, Bool, true, false, List, [], ◌∷◌, length, map}
 use Rattle.cell_values.specs.declared.schema.Dimension.{Dimension}
 use Rattle.array_geom.specs.declared.chunk.Chunk.{Chunk}
-use Rattle.exec_group.specs.Inner.Keys.{core_of, aggregate_sets, regrid_sets}
-use Rattle.exec_group.specs.Counts.{cells_in}
-use Rattle.exec_group.specs.declared.rows.groups.Groups.{Groups}
-use Rattle.exec_group.specs.Grouped.{AreGroupsOf}
-use Rattle.exec_group.specs.Sets.{Sets}
+use Rattle.group_rows.specs.Inner.Keys.{core_of, aggregate_sets, regrid_sets}
+use Rattle.group_rows.specs.Counts.{cells_in}
+use Rattle.group_rows.specs.declared.rows.groups.Groups.{Groups}
+use Rattle.group_rows.specs.Grouped.{AreGroupsOf}
+use Rattle.group_rows.specs.Sets.{Sets}
 use Rattle.logical_plan.specs.declared.parts.Aggregate.{Aggregate}
 
 -- the groups of the cells of a chunk's core

@@ -8,10 +8,11 @@ ghost use Rattle.logical_plan.specs.PlanSchema.{aggregate_schema};
 ghost use Rattle.logical_plan.specs.Typing.{are_aggregates_of, are_below};
 ghost use Rattle.exec_group.specs.Meant.{aggregate_meant};
 
-use crate::parts::{aggregate_groups, rows_of_cores, told_array};
+use crate::parts::told_array;
 use area_cells::broken_array;
 use array_geom::{ChunkedArray, margins_of};
 use cell_values::{Memory, Schema};
+use group_rows::{aggregate_groups, rows_of_cores};
 use logical_plan::Aggregate;
 
 /// The aggregates of an array that is not broken.

@@ -5,16 +5,15 @@ ghost use Rattle.array_rows.specs.Boxes.{is_inside};
 ghost use Rattle.array_geom.specs.Geometry.{coordinate_in, volume};
 ghost use Rattle.array_geom.specs.Inner.Ranges.{IsGrid};
 ghost use Rattle.array_parts.specs.Cores.{HaveCells};
-ghost use Rattle.exec_group.specs.Counts.{cells_in};
-ghost use Rattle.exec_group.specs.Grouped.{AreGroupsOf};
-ghost use Rattle.exec_group.specs.Inner.Keys.{aggregate_sets, core_of};
-ghost use Rattle.exec_group.specs.Sets.{one_set};
+ghost use Rattle.group_rows.specs.Counts.{cells_in};
+ghost use Rattle.group_rows.specs.Grouped.{AreGroupsOf};
+ghost use Rattle.group_rows.specs.Inner.Keys.{aggregate_sets, core_of};
+ghost use Rattle.group_rows.specs.Sets.{one_set};
 
-use crate::parts::named::zero;
-use crate::rows::{Groups, one_of_columns};
 use array_geom::{Chunk, Grid, core_box, grid_of};
 use array_rows::{Cells, is_in_box};
 use cell_values::{Bounds, Coord, List, Margins, Memory, Schema};
+use group_rows::{Groups, one_of_columns, zero};
 use logical_plan::Aggregate;
 
 /// Whether cells can be counted.

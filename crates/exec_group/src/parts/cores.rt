@@ -1,36 +1,14 @@
-//! The cells of cores.
+//! The cells of a chunk's core.
 ghost use Rattle.std.specs.Prelude.{◌≡◌, ◌∷◌, [], ◌^◌, ◌<◌, length, IsTrue, IfOk};
 ghost use Rattle.std.specs.List.{All};
 ghost use Rattle.array_rows.specs.Boxes.{is_inside, bounds_of};
 ghost use Rattle.array_rows.specs.Rows.{IsRising};
-ghost use Rattle.array_parts.specs.Cores.{HaveCells, cores_of};
-ghost use Rattle.exec_group.specs.Inner.Keys.{core_of};
+ghost use Rattle.array_parts.specs.Cores.{HaveCells};
+ghost use Rattle.group_rows.specs.Inner.Keys.{core_of};
 
-use area_cells::into_core_rows;
 use array_geom::{Chunk, ChunkedArray};
 use cell_values::{List, Margins, Memory, Row, Schema, copy_numbers};
-
-/// More rows than can be counted are as good as no memory.
-fn counted(rows: List<Row>) -> Result<List<Row>, Memory>
-    ensures same { IfOk result (λ same. same ≡ rows) }
-    ensures few { IfOk result (λ same. length same < 2 ^ 63) }
-{
-    if rows.len() < 1 << 63 {
-        Ok(rows)
-    } else {
-        Err(Memory)
-    }
-}
-
-/// The rows of an array's cores, whose cells are moved.
-pub fn rows_of_cores(array: ChunkedArray) -> Result<List<Row>, Memory>
-    requires { HaveCells array.schema array.margins.items array.chunks }
-    ensures rows { IfOk result (λ rows. rows ≡ cores_of array) }
-    ensures few { IfOk result (λ rows. length rows < 2 ^ 63) }
-{
-    let rows = into_core_rows(array)?;
-    counted(rows)
-}
+use group_rows::rows_of_cores;
 
 /// The array of one chunk, whose cells are moved.
 fn alone(schema: &Schema, margins: &Margins, chunk: Chunk) -> Result<ChunkedArray, Memory>

@@ -2,14 +2,13 @@
 ghost use Rattle.std.specs.Prelude.{◌≡◌, ◌^◌, ◌<◌, IfOk};
 ghost use Rattle.cell_values.specs.Schemas.{IsValid};
 ghost use Rattle.array_geom.specs.Geometry.{overlaps};
-ghost use Rattle.exec_group.specs.Counts.{cells_in};
-ghost use Rattle.exec_group.specs.Inner.Merging.{CanBeTold, HoldsSets};
+ghost use Rattle.group_rows.specs.Counts.{cells_in};
+ghost use Rattle.group_rows.specs.Inner.Merging.{CanBeTold, HoldsSets};
 
-use crate::parts::results::rows_told;
-use crate::rows::Groups;
 use array_geom::{ChunkedArray, margins_of};
 use cell_values::{Memory, Schema};
 use chunk_cells::assemble;
+use group_rows::{Groups, rows_told};
 
 /// The array of the target with a cell for each group, whose values are the aggregates of the group's cells.
 #[tactic(auto, using(array_geom::proofs::MarginLaws::overlap_each, array_geom::proofs::MarginLaws::overlap_places))]

@@ -6,21 +6,21 @@ ghost use Rattle.array_parts.specs.Cores.{HasCells, HaveCells, meant_by_cores};
 ghost use Rattle.array_geom.specs.Geometry.{overlaps};
 ghost use Rattle.array_geom.specs.Link.{Is, NumbersRise, numbers, core_rows};
 ghost use Rattle.exec_group.specs.Meant.{regrid_meant};
-ghost use Rattle.exec_group.specs.Inner.Keys.{regrid_sets};
-ghost use Rattle.exec_group.specs.Counts.{cells_in};
-ghost use Rattle.exec_group.specs.Grouped.{AreGroupsOf};
+ghost use Rattle.group_rows.specs.Inner.Keys.{regrid_sets};
+ghost use Rattle.group_rows.specs.Counts.{cells_in};
+ghost use Rattle.group_rows.specs.Grouped.{AreGroupsOf};
 ghost use Rattle.logical_plan.specs.PlanSchema.{regrid_schema};
 ghost use Rattle.logical_plan.specs.Typing.{are_aggregates_of};
 ghost use Rattle.exec_group.specs.Inner.Parts.{IsBlockPartOf};
 
 use crate::parts::{regrid_part, told_array};
 use crate::pieces::parts::are_few;
-use crate::rows::{Groups, merge_all};
 use afl_outside::Gate;
 use area_cells::are_rising;
 use array_geom::{Chunk, ChunkedArray};
 use cell_values::{List, Margins, Memory, Schema};
 use chunk_workers::{Crew, Work, over_pieces};
+use group_rows::{Groups, merge_all};
 use logical_plan::Aggregate;
 use std::thread::Threads;
 

@@ -2,19 +2,19 @@
 ghost use Rattle.std.specs.Prelude.{◌≡◌, ◌≤◌, ◌<◌, ◌^◌, ◌∷◌, [], length, IsTrue, IfOk};
 ghost use Rattle.std.specs.List.{AllByRecursion, AllZip};
 ghost use Rattle.array_geom.specs.Link.{NumbersRise, numbers, core_rows};
-ghost use Rattle.exec_group.specs.Inner.Keys.{aggregate_sets};
+ghost use Rattle.group_rows.specs.Inner.Keys.{aggregate_sets};
 ghost use Rattle.array_parts.specs.Cores.{HaveCells};
-ghost use Rattle.exec_group.specs.Counts.{cells_in};
-ghost use Rattle.exec_group.specs.Grouped.{AreGroupsOf};
-ghost use Rattle.exec_group.specs.Sets.{all_sets, AreAllApart};
+ghost use Rattle.group_rows.specs.Counts.{cells_in};
+ghost use Rattle.group_rows.specs.Grouped.{AreGroupsOf};
+ghost use Rattle.group_rows.specs.Sets.{all_sets, AreAllApart};
 ghost use Rattle.exec_group.specs.Inner.Parts.{IsPartOf, sets_of, cells_held, has_parts};
 
 use crate::parts::aggregate_part;
-use crate::rows::{Groups, merge_all};
 use afl_outside::Gate;
 use array_geom::Chunk;
 use cell_values::{List, Margins, Memory, Schema};
 use chunk_workers::{Crew, Work, over_pieces};
+use group_rows::{Groups, merge_all};
 use logical_plan::Aggregate;
 use std::thread::Threads;
 

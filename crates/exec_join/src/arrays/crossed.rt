@@ -10,11 +10,11 @@ ghost use Rattle.exec_join.specs.Meant.{cross_meant};
 
 use crate::arrays::building::rows_of;
 use crate::arrays::cross_pieces::cross_by_pieces;
-use crate::rows::cross_of_rows;
 use area_cells::are_rising;
 use array_geom::{ChunkedArray, margins_of};
 use cell_values::{Memory, Schema};
 use chunk_cells::{assemble, broken_array};
+use join_rows::cross_of_rows;
 use logical_plan::Pair;
 
 /// The cross join of two arrays of which none is broken.

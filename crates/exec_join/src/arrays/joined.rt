@@ -9,13 +9,13 @@ ghost use Rattle.exec_join.specs.Meant.{join_meant};
 
 use crate::arrays::building::rows_of;
 use crate::arrays::pieces::by_parts;
-use crate::rows::join_of_rows;
 use afl_outside::Gate;
 use area_cells::are_rising;
 use array_geom::{ChunkedArray, margins_of};
 use cell_values::{Memory, Schema};
 use chunk_cells::{assemble, broken_array};
 use chunk_workers::Crew;
+use join_rows::join_of_rows;
 use std::thread::Threads;
 
 /// The join of two arrays of which none is broken.

@@ -13,12 +13,12 @@ ghost use Rattle.logical_plan.specs.Joins.{join_rows};
 ghost use Rattle.logical_plan.specs.PlanSchema.{join_schema};
 ghost use Rattle.exec_join.specs.Meant.{join_meant};
 
-use crate::rows::join_of_rows;
 use afl_outside::Gate;
 use area_cells::{array_of_parts, chunk_of_rows, numbers_of, rows_in_area};
 use array_geom::{Chunk, ChunkedArray, frame, grid_of, margins_of};
 use cell_values::{Bounds, ChunkAt, List, Margins, Memory, Row, Schema};
 use chunk_workers::{Crew, Work, over_pieces};
+use join_rows::join_of_rows;
 use std::thread::Threads;
 
 /// The joined rows in a box.

@@ -5,7 +5,7 @@ ghost use Rattle.file_items.specs.declared.bytes.stop.Stop.TheVariants.{Memory a
 use cell_values::Memory;
 
 /// Why items could not be read.
-#[derive(Clone, Copy, Debug, PartialEq, Eq)]
+#[derive(Clone, Copy)]
 pub enum Stop {
     Memory,
     /// An item is wrong where so many bytes are left.

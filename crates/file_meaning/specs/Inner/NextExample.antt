@@ -1,8 +1,8 @@
 -- An array that is stored again: the file before, the file after, and what the commit of its record has done.
 use Rattle.std.specs.Prelude.{ℕ, List, [], ◌∷◌, ◌++◌, codes, Some}
 use Rattle.plan_changes.specs.Query.{scanned}
-use Rattle.page_slots.specs.declared.layout.sides.Side.TheVariants.{A}
-use Rattle.page_slots.specs.declared.layout.sides.Format.TheVariants.{Two}
+use Rattle.page_chain.specs.declared.slots.layout.sides.Side.TheVariants.{A}
+use Rattle.page_chain.specs.declared.slots.layout.sides.Format.TheVariants.{Two}
 use Rattle.chunk_map.specs.declared.directory.DirEntry.{DirEntry}
 use Rattle.plan_changes.specs.declared.change.Change.{Change}
 use Rattle.plan_changes.specs.declared.change.Change.TheVariants.{Store}

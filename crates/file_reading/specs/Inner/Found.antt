@@ -1,7 +1,7 @@
 -- All that a file keeps, found in two parts: its base, and what follows it.
 use Rattle.std.specs.Prelude.{◌≡◌, ℕ, List, [], ◌∷◌, ◌++◌, Result, Ok, Err}
 use Rattle.file_items.specs.Items.{◌>>=◌}
-use Rattle.page_slots.specs.declared.layout.roots.Root.{Root}
+use Rattle.page_chain.specs.declared.slots.layout.roots.Root.{Root}
 use Rattle.page_chain.specs.declared.fault.OpenCause.{OpenCause}
 use Rattle.page_chain.specs.declared.fault.OpenCause.TheVariants.{Disk, NotDatabase, Memory}
 use Rattle.file_meaning.specs.Opening.{Logged, Rules, logged_in, rows_in, sequence_of}

@@ -1,8 +1,8 @@
 -- The catalogue of a file: its base, and the records of its log.
 use Rattle.std.specs.Prelude.{◌≡◌, ℕ, List, [], ◌∷◌, ◌++◌, Result, Ok, Err}
 use Rattle.file_items.specs.Items.{◌>>=◌}
-use Rattle.page_slots.specs.declared.layout.roots.Root.{Root}
-use Rattle.page_slots.specs.declared.layout.logs.RecordAt.{RecordAt}
+use Rattle.page_chain.specs.declared.slots.layout.roots.Root.{Root}
+use Rattle.page_chain.specs.declared.slots.layout.logs.RecordAt.{RecordAt}
 use Rattle.page_chain.specs.Pages.{page_size}
 use Rattle.page_chain.specs.Chains.{chain, chain_bytes}
 use Rattle.page_chain.specs.declared.fault.OpenCause.{OpenCause}

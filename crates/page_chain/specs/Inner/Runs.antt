@@ -1,7 +1,7 @@
 -- What several calls of a disk, one after the other, do to it.
 use Rattle.std.specs.Prelude.{◌≡◌, ℕ, List, IsTrue, Some, IfSome}
 use Rattle.afl_outside.specs.Disk.{DiskState, DiskGoesOn, Follows, LeavesNoMore, LeavesOnly, Moment}
-use Rattle.page_slots.specs.Places.{KeepsPages}
+use Rattle.page_chain.specs.Places.{KeepsPages}
 
 -- The disk was only read: a read gives what it gave, and a crash at any moment since then leaves what it might have left at the start.
 pub record OnlyReads (old new : Moment) : Type 0 where

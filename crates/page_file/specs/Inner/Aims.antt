@@ -1,12 +1,12 @@
 -- Which slot is aimed at.
 use Rattle.std.specs.Prelude.{◌≡◌, ◌<◌, ◌⊎◌, length}
-use Rattle.page_slots.specs.declared.layout.sides.Slot.{Slot}
-use Rattle.page_slots.specs.declared.layout.sides.Slot.TheVariants.{A, B, Log}
-use Rattle.page_slots.specs.declared.layout.sides.Format.TheVariants.{Two}
-use Rattle.page_slots.specs.Steps.{target_slot}
-use Rattle.page_slots.specs.declared.slots.slots.Slots.{Slots}
-use Rattle.page_slots.specs.declared.slots.slots.Target.{Target}
-use Rattle.page_slots.specs.declared.slots.slots.Target.TheVariants as targets
+use Rattle.page_chain.specs.declared.slots.layout.sides.Slot.{Slot}
+use Rattle.page_chain.specs.declared.slots.layout.sides.Slot.TheVariants.{A, B, Log}
+use Rattle.page_chain.specs.declared.slots.layout.sides.Format.TheVariants.{Two}
+use Rattle.page_chain.specs.Steps.{target_slot}
+use Rattle.page_chain.specs.declared.slots.slots.slots.Slots.{Slots}
+use Rattle.page_chain.specs.declared.slots.slots.slots.Target.{Target}
+use Rattle.page_chain.specs.declared.slots.slots.slots.Target.TheVariants as targets
 
 abbrev pub target_of : Slot → Target
 target_of A = targets.Root

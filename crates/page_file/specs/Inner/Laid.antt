@@ -1,6 +1,6 @@
 -- What the calls that make a file a database write.
 use Rattle.std.specs.Prelude.{◌≡◌, ℕ, List, [], ◌∷◌, IsTrue, Some, IfSome}
-use Rattle.page_slots.specs.Disk.{DiskState, written}
+use Rattle.page_chain.specs.Disk.{DiskState, written}
 
 -- the text AFLSTORE, and the number 2 in four bytes
 abbrev pub head_bytes : List ℕ

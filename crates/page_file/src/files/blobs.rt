@@ -1,20 +1,19 @@
 //! Blobs and chains in a database's file.
 ghost use Rattle.std.specs.Prelude.{◌≡◌, ℕ, List, [], ◌∷◌, ◌<◌, ◌/◌, length, slice_index_or, IfSome, IfOk, IfErr, OnOk, IsErrOf, MatchResult};
-ghost use Rattle.page_slots.specs.Disk.{FailsWithCause};
-ghost use Rattle.page_slots.specs.Counts.{Rose};
-ghost use Rattle.page_slots.specs.Places.{KeepsPages};
-ghost use Rattle.page_slots.specs.declared.layout.logs.RecordAt.{RecordAt};
+ghost use Rattle.page_chain.specs.Disk.{FailsWithCause};
+ghost use Rattle.page_chain.specs.Counts.{Rose};
+ghost use Rattle.page_chain.specs.Places.{KeepsPages};
+ghost use Rattle.page_chain.specs.declared.slots.layout.logs.RecordAt.{RecordAt};
 ghost use Rattle.page_chain.specs.Pages.{page_size, pages_for, IsBlobRead, HoldsBlob};
 ghost use Rattle.page_chain.specs.Chains.{content_size, IsChainRead, HoldsChain};
 ghost use Rattle.page_chain.specs.Inner.Runs.{OnlyReads, OnlyWrites, Sees};
-ghost use Rattle.page_slots.specs.Standing.{IsClosed, IsSound, KeepsSound, LeavesOpening};
-ghost use Rattle.page_slots.specs.Steps.{emptied};
+ghost use Rattle.page_chain.specs.Standing.{IsClosed, IsSound, KeepsSound, LeavesOpening};
+ghost use Rattle.page_chain.specs.Steps.{emptied};
 ghost use Rattle.page_file.specs.OpeningOpened.{IsDeviceFault};
 ghost use Rattle.page_file.specs.Written.{MayWrite, pages_written, blob_written};
 
 use crate::files::PageFile;
-use page_chain::{BlobFault, Bytes, Link, List, OpenCause};
-use page_slots::{Disk, Failed, Root, has_risen};
+use page_chain::{BlobFault, Bytes, Disk, Failed, Link, List, OpenCause, Root, has_risen};
 use std::alloc::Global;
 
 impl<D: Disk> PageFile<D> {

@@ -1,20 +1,19 @@
 //! A database's file.
 ghost use Rattle.std.specs.Prelude.{◌≡◌, ℕ, List, ◌<◌, ◌+◌, true, false, IsTrue, IfSome, IfOk, IfErr, OnOk, Ok, Err, MatchResult};
-ghost use Rattle.page_slots.specs.Disk.{FailsWithCause, Only};
-ghost use Rattle.page_slots.specs.Places.{body_of, other};
-ghost use Rattle.page_slots.specs.Puts.{OnlyPuts, OnlySyncs};
-ghost use Rattle.page_slots.specs.Standing.{entry_gate, gate_place, IsTarget, IsShut, IsReady, IsShutRoot};
-ghost use Rattle.page_slots.specs.Standing.{IsShutEntry, IsSound, KeepsSound, LeavesOpening, IsDurable};
-ghost use Rattle.page_slots.specs.Steps.{target_slot, aimed, shut, doubted, with_target, ajar};
-ghost use Rattle.page_slots.specs.declared.slots.slots.RootSlot.TheVariants as roots;
-ghost use Rattle.page_slots.specs.declared.slots.slots.NextEntry.TheVariants as entries;
-ghost use Rattle.page_slots.specs.declared.slots.slots.Target.TheVariants as targets;
+ghost use Rattle.page_chain.specs.Disk.{FailsWithCause, Only};
+ghost use Rattle.page_chain.specs.Places.{body_of, other};
+ghost use Rattle.page_chain.specs.Puts.{OnlyPuts, OnlySyncs};
+ghost use Rattle.page_chain.specs.Standing.{entry_gate, gate_place, IsTarget, IsShut, IsReady, IsShutRoot};
+ghost use Rattle.page_chain.specs.Standing.{IsShutEntry, IsSound, KeepsSound, LeavesOpening, IsDurable};
+ghost use Rattle.page_chain.specs.Steps.{target_slot, aimed, shut, doubted, with_target, ajar};
+ghost use Rattle.page_chain.specs.declared.slots.slots.slots.RootSlot.TheVariants as roots;
+ghost use Rattle.page_chain.specs.declared.slots.slots.slots.NextEntry.TheVariants as entries;
+ghost use Rattle.page_chain.specs.declared.slots.slots.slots.Target.TheVariants as targets;
 ghost use Rattle.page_file.specs.Inner.Aims.{target_of, IsAim};
 ghost use Rattle.page_file.specs.OpeningOpened.{IsOpened, AreFresh, HasCause};
 
 use crate::opening::open_slots;
-use page_chain::OpenCause;
-use page_slots::{Disk, Failed, RecordAt, Root, Side, Slot, Slots, Target};
+use page_chain::{Disk, Failed, OpenCause, RecordAt, Root, Side, Slot, Slots, Target};
 use std::marker::Model;
 
 fn target_of(slot: Slot) -> Target
@@ -139,7 +138,7 @@ impl<D: Disk> PageFile<D> {
         ensures quiet { IsShut self.old.slots.target self.old.slots → OnlySyncs (D.moment self.old.disk) (D.moment self.new.disk) }
         ensures cause { FailsWithCause result (D.moment self.old.disk) (D.moment self.new.disk) }
     {
-        page_slots::close_slot(&mut self.slots, &mut self.disk)
+        page_chain::close_slot(&mut self.slots, &mut self.disk)
     }
 
     /// Writes the root that the target is to open.
@@ -156,7 +155,7 @@ impl<D: Disk> PageFile<D> {
         ensures writes { OnlyPuts (body_of (other self.old.slots.current.side)) 24 (D.moment self.old.disk) (D.moment self.new.disk) }
         ensures cause { FailsWithCause result (D.moment self.old.disk) (D.moment self.new.disk) }
     {
-        page_slots::write_root(&mut self.slots, &mut self.disk, root)
+        page_chain::write_root(&mut self.slots, &mut self.disk, root)
     }
 
     /// Writes where the record lies that the target is to open.
@@ -173,7 +172,7 @@ impl<D: Disk> PageFile<D> {
         ensures writes { OnlyPuts (entry_gate self.old.slots + 8) 12 (D.moment self.old.disk) (D.moment self.new.disk) }
         ensures cause { FailsWithCause result (D.moment self.old.disk) (D.moment self.new.disk) }
     {
-        page_slots::write_record(&mut self.slots, &mut self.disk, at)
+        page_chain::write_record(&mut self.slots, &mut self.disk, at)
     }
 
     /// Opens the target, once what it is to open is on the disk.
@@ -189,6 +188,6 @@ impl<D: Disk> PageFile<D> {
         ensures writes { OnlyPuts (gate_place self.old.slots.target self.old.slots) 1 (D.moment self.old.disk) (D.moment self.new.disk) }
         ensures cause { FailsWithCause result (D.moment self.old.disk) (D.moment self.new.disk) }
     {
-        page_slots::open_slot(&mut self.slots, &mut self.disk)
+        page_chain::open_slot(&mut self.slots, &mut self.disk)
     }
 }

@@ -3,7 +3,7 @@
 use thiserror::Error;
 
 /// Why a file was not made a database.
-#[derive(Clone, Copy, Debug, PartialEq, Eq, Error)]
+#[derive(Clone, Copy, Debug, Error)]
 pub enum InitFault {
     #[error("the disk failed")]
     Disk,

@@ -1,12 +1,12 @@
 //! The first pages of a file.
 ghost use Rattle.std.specs.Prelude.{◌≡◌, ◌≢◌, ℕ, List, length, Some, IfSome, IfErr, IsTrue, OnOk};
-ghost use Rattle.page_slots.specs.Disk.{DiskGoesOn, FailsWithCause, Only};
-ghost use Rattle.page_slots.specs.Puts.{OnlySyncs};
+ghost use Rattle.page_chain.specs.Disk.{DiskGoesOn, FailsWithCause, Only};
+ghost use Rattle.page_chain.specs.Puts.{OnlySyncs};
 ghost use Rattle.page_file.specs.Start.{IsEmptyDatabase, IsInit, HasCause, IsDeviceFault, WhereNotEmpty};
 ghost use Rattle.page_file.specs.Inner.Laid.{Lays, laid, made};
 
 use crate::making::InitFault;
-use page_slots::{Disk, Failed, PAGE, Root, Side, has_risen, root_body};
+use page_chain::{Disk, Failed, PAGE, Root, Side, has_risen, root_body};
 
 /// `AFLSTORE`, and the format 2.
 const HEAD: [u8; 12] = [65, 70, 76, 83, 84, 79, 82, 69, 2, 0, 0, 0];

@@ -1,18 +1,17 @@
 //! What a file opens as.
 ghost use Rattle.std.specs.Prelude.{◌≡◌, ◌≤◌, length, slice_index, false, IsTrue, Some, None, IfSome, OnOk, IfOk, IfErr};
-ghost use Rattle.page_slots.specs.Puts.{OnlySyncs};
-ghost use Rattle.page_slots.specs.Standing.{IsSound, OtherHolds};
-ghost use Rattle.page_slots.specs.Disk.{IsSettled};
-ghost use Rattle.page_slots.specs.Places.{gate_of, other};
-ghost use Rattle.page_slots.specs.Roots.{current};
-ghost use Rattle.page_slots.specs.Steps.{first_target};
+ghost use Rattle.page_chain.specs.Puts.{OnlySyncs};
+ghost use Rattle.page_chain.specs.Standing.{IsSound, OtherHolds};
+ghost use Rattle.page_chain.specs.Disk.{IsSettled};
+ghost use Rattle.page_chain.specs.Places.{gate_of, other};
+ghost use Rattle.page_chain.specs.Roots.{current};
+ghost use Rattle.page_chain.specs.Steps.{first_target};
 ghost use Rattle.page_file.specs.OpeningOpened.{FrontRead, PageLog, LogRead, RecordsRead, IsRead, IsOpened, AreFresh, HasCause};
 
 use crate::opening::reads::{read_page, settle};
-use page_chain::OpenCause;
-use page_slots::{
-    Disk, Format, LOG_ENTRIES, NextEntry, OpenRoot, PAGE, Records, RootSlot, Side, Slots, Target,
-    current_in, log_in,
+use page_chain::{
+    Disk, Format, LOG_ENTRIES, NextEntry, OpenCause, OpenRoot, PAGE, Records, RootSlot, Side,
+    Slots, Target, current_in, log_in,
 };
 
 fn front_of(page: &[u8]) -> Result<(OpenRoot, RootSlot), OpenCause>

@@ -1,11 +1,10 @@
 //! Pages that are read whole.
 ghost use Rattle.std.specs.Prelude.{◌≡◌, length, IfSome, IfOk, IfErr, OnOk, MatchBool};
-ghost use Rattle.page_slots.specs.Disk.{IsSettled};
-ghost use Rattle.page_slots.specs.Puts.{OnlySyncs};
+ghost use Rattle.page_chain.specs.Disk.{IsSettled};
+ghost use Rattle.page_chain.specs.Puts.{OnlySyncs};
 ghost use Rattle.page_file.specs.OpeningOpened.{HasPage, CutsPage, IsDeviceFault};
 
-use page_chain::OpenCause;
-use page_slots::{Disk, Failed, PAGE, has_risen};
+use page_chain::{Disk, Failed, OpenCause, PAGE, has_risen};
 
 /// Reads a page, and says whether the disk has all of it.
 pub(crate) fn read_page<D: Disk>(

@@ -1,16 +1,16 @@
 //! Blobs and chains, written beside the slots.
 ghost use Rattle.std.specs.Prelude.{◌≡◌, nat_eq, length, OnOk, MatchResult};
-ghost use Rattle.page_slots.specs.Disk.{FailsWithCause};
+ghost use Rattle.page_chain.specs.Disk.{FailsWithCause};
 ghost use Rattle.std.specs.List.{list_all, list_any};
-ghost use Rattle.page_slots.specs.Places.{KeepsPages};
+ghost use Rattle.page_chain.specs.Places.{KeepsPages};
 ghost use Rattle.page_chain.specs.Pages.{page_size, pages_for, HoldsBlob};
 ghost use Rattle.page_chain.specs.Chains.{content_size, HoldsChain};
 ghost use Rattle.page_chain.specs.Inner.Runs.{OnlyWrites, Sees};
-ghost use Rattle.page_slots.specs.Standing.{IsClosed, KeepsSound, LeavesOpening};
-ghost use Rattle.page_slots.specs.Steps.{emptied};
+ghost use Rattle.page_chain.specs.Standing.{IsClosed, KeepsSound, LeavesOpening};
+ghost use Rattle.page_chain.specs.Steps.{emptied};
 ghost use Rattle.page_file.specs.Written.{MayWrite, unwritten, zeroed_by, pages_written, blob_written};
 
-use page_slots::{Disk, Failed, Slots};
+use page_chain::{Disk, Failed, Slots};
 
 fn is_among(pages: &[u32], page: u32) -> bool
     ensures { result ≡ list_any (λ other. nat_eq other page) pages.now }

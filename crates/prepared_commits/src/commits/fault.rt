@@ -3,7 +3,7 @@
 use cell_values::Memory;
 
 /// Why a commit can't be prepared.
-#[derive(Debug, Clone, Copy)]
+#[derive(Clone, Copy)]
 pub enum PrepareFault {
     /// The database has the last sequence number that there is.
     SequenceEnd,

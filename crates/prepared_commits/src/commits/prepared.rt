@@ -2,14 +2,14 @@
 
 use crate::commits::{let_go_catalog, let_go_pages, let_go_version};
 use cell_values::List;
-use commit_writes::Placed;
+use page_file::Placed;
 use plan_changes::let_go_change;
 use store_state::ReadyCommit;
 use store_versions::ReadyVersion;
 use version_catalog::Catalog;
 
 /// A new base: its sequence number, and its log page.
-#[derive(Debug, Clone, Copy)]
+#[derive(Clone, Copy)]
 pub struct NewBase {
     pub sequence: u64,
     pub log: u32,

@@ -14,7 +14,7 @@ ghost use Rattle.store_versions.specs.Versions.{directory_of};
 use cell_values::{List, Memory};
 use chunk_map::Directory;
 use logical_plan::Names;
-use page_slots::Target;
+use page_chain::Target;
 use plan_changes::{Change, changed_name, newest_of};
 use std::alloc::Global;
 use store_state::{Written, needed_for_base, needed_for_record};

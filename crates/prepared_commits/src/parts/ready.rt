@@ -11,7 +11,7 @@ ghost use Rattle.store_versions.specs.Rows.{IsReadyFor};
 use crate::commits::let_go_version;
 use cell_values::Memory;
 use chunk_map::Directory;
-use event_core::Used;
+use event_core::{Used, let_go_used};
 use logical_plan::Names;
 use plan_changes::{Change, changed_name, let_go_change, next_of};
 use store_ledger::{Ledger, ReadyCommit};
@@ -62,7 +62,7 @@ pub(crate) fn ready_both(
         },
         Err(Memory) => {
             let_go_change(change);
-            drop(used);
+            let_go_used(used);
             Err(Memory)
         }
     }

@@ -7,10 +7,10 @@ use Rattle.cell_values.specs.declared.memory.Memory.{Memory}
 use Rattle.cell_values.specs.declared.schema.Bounds.{Bounds}
 use Rattle.logical_plan.specs.declared.parts.Aggregate.{Aggregate}
 use Rattle.logical_plan.specs.Redimension.{Origin, Landed, landed, landed_at}
-use Rattle.exec_group.specs.declared.rows.groups.Groups.{Groups}
-use Rattle.exec_group.specs.Grouped.{AreGroupsOf}
-use Rattle.exec_group.specs.Sets.{Sets, unless_empty}
-use Rattle.exec_group.specs.Told.{IsRowOf}
+use Rattle.group_rows.specs.declared.rows.groups.Groups.{Groups}
+use Rattle.group_rows.specs.Grouped.{AreGroupsOf}
+use Rattle.group_rows.specs.Sets.{Sets, unless_empty}
+use Rattle.group_rows.specs.Told.{IsRowOf}
 
 -- the cells that land at each coordinate
 abbrev pub landed_sets : List Landed → Sets

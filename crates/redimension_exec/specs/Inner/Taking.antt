@@ -9,7 +9,7 @@ use Rattle.array_rows.specs.Rows.{IsRising}
 use Rattle.logical_plan.specs.declared.parts.Aggregate.{Aggregate}
 use Rattle.logical_plan.specs.Redimension.{Origin, Landed, landed}
 use Rattle.agg_states.specs.Inner.Summary.{Summary}
-use Rattle.exec_group.specs.Taken.{KeepsGroups}
+use Rattle.group_rows.specs.Taken.{KeepsGroups}
 use Rattle.redimension_exec.specs.Inner.Grouping.{landed_sets}
 
 -- the rows of those that landed

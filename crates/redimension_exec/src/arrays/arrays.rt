@@ -12,7 +12,7 @@ use crate::arrays::cells::redimension_cells;
 use crate::arrays::gathering::{gathered_in_bands, gathered_rows};
 use array_geom::ChunkedArray;
 use cell_values::{Memory, Schema};
-use exec_group::rows_of_cores;
+use group_rows::rows_of_cores;
 use logical_plan::Aggregate;
 use redimension_fill::has_bands;
 

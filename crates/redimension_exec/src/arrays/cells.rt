@@ -9,10 +9,11 @@ ghost use Rattle.logical_plan.specs.Typing.{redimensions};
 ghost use Rattle.redimension_fill.specs.Inner.Filling.{HoldsLanded, no_margins};
 
 use crate::arrays::building::broken_target;
+use crate::telling::told_array;
 use array_geom::{Chunk, ChunkedArray};
 use cell_values::{Broken, ChunkAt, Margins, Memory, Schema};
-use exec_group::rows_of_cores;
-use redimension_fill::{filled_from_rows, filled_in_bands, has_bands, no_margins, told_array};
+use group_rows::rows_of_cores;
+use redimension_fill::{filled_from_rows, filled_in_bands, has_bands, no_margins};
 use std::collections::BTreeMap;
 
 /// The target's chunks with what lands of an array's cores, or the first row that breaks the target, from all rows.

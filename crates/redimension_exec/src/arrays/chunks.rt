@@ -3,7 +3,7 @@ ghost use Rattle.std.specs.Prelude.{◌≡◌, ◌≤◌, Ok as Good, false, len
 ghost use Rattle.array_rows.specs.Boxes.{bounds_of};
 ghost use Rattle.array_geom.specs.Link.{core_rows};
 ghost use Rattle.logical_plan.specs.Redimension.{origin_of};
-ghost use Rattle.exec_group.specs.Counts.{cells_in};
+ghost use Rattle.group_rows.specs.Counts.{cells_in};
 ghost use Rattle.redimension_fill.specs.Inner.Bands.{AreBands};
 ghost use Rattle.redimension_fill.specs.Inner.Counting.{has_counted};
 ghost use Rattle.redimension_exec.specs.Inner.Grouping.{AreGroupsLanded};
@@ -11,7 +11,7 @@ ghost use Rattle.redimension_exec.specs.Inner.Grouping.{AreGroupsLanded};
 use crate::arrays::bands::{groups_in_band, groups_in_bands};
 use array_geom::Chunk;
 use cell_values::{Broken, Margins, Memory, Schema};
-use exec_group::{Groups, merge_two};
+use group_rows::{Groups, merge_two};
 use logical_plan::Aggregate;
 
 /// The groups of what lands of the cores of chunks, from all their rows; none where a row breaks the array.

@@ -14,7 +14,7 @@ use crate::arrays::groups::groups_landed;
 use crate::arrays::ordering::aggregates_named;
 use array_geom::ChunkedArray;
 use cell_values::{Broken, List, Memory, Row, Schema};
-use exec_group::{Groups, rows_told};
+use group_rows::{Groups, rows_told};
 use logical_plan::Aggregate;
 
 /// The rows that groups tell, or what broke the array.

@@ -3,13 +3,13 @@ ghost use Rattle.std.specs.Prelude.{◌≡◌, ◌≤◌, ◌<◌, ◌^◌, fals
 ghost use Rattle.array_rows.specs.Boxes.{bounds_of};
 ghost use Rattle.array_rows.specs.Rows.{IsRising};
 ghost use Rattle.logical_plan.specs.Redimension.{origin_of};
-ghost use Rattle.exec_group.specs.Counts.{cells_in};
+ghost use Rattle.group_rows.specs.Counts.{cells_in};
 ghost use Rattle.redimension_fill.specs.Inner.Counting.{has_counted};
 ghost use Rattle.redimension_exec.specs.Inner.Grouping.{AreGroupsLanded};
 
 use crate::landings::groups_from;
 use cell_values::{Broken, List, Memory, Row, Schema};
-use exec_group::Groups;
+use group_rows::Groups;
 use logical_plan::Aggregate;
 use redimension_fill::{bounds_of, places_of_dimensions};
 

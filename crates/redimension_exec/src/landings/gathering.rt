@@ -1,8 +1,8 @@
 //! Groups of rows that land, where several may land at one coordinate.
 ghost use Rattle.std.specs.Prelude.{◌≡◌, ◌+◌, ◌<◌, ◌^◌, ◌≤◌, false, length, map, IfOk};
 ghost use Rattle.array_rows.specs.Rows.{IsRising};
-ghost use Rattle.exec_group.specs.Counts.{cells_in};
-ghost use Rattle.exec_group.specs.Taken.{cells_kept};
+ghost use Rattle.group_rows.specs.Counts.{cells_in};
+ghost use Rattle.group_rows.specs.Taken.{cells_kept};
 ghost use Rattle.redimension_fill.specs.Inner.Counting.{has_counted};
 ghost use Rattle.redimension_exec.specs.Inner.Grouping.{AreGroupsLanded};
 ghost use Rattle.redimension_fill.specs.Inner.Places.{origin};
@@ -11,7 +11,7 @@ ghost use Rattle.redimension_exec.specs.Inner.Taking.{IsTaken};
 use agg_states::AggState;
 use array_rows::is_in_box;
 use cell_values::{Bounds, Broken, Coord, FaultKind, List, Memory, Row, copy_coord};
-use exec_group::{Groups, groups_in, take_rows};
+use group_rows::{Groups, groups_in, take_rows};
 use logical_plan::Aggregate;
 use redimension_fill::{Place, first_numbers};
 use std::alloc::Global;

@@ -3,7 +3,6 @@ use Rattle.std.specs.Prelude.{◌≡◌, ℕ, ◌≤◌, ℤ, true, cond, IsTrue
 use Rattle.std.specs.Prelude.{Option, Some, None, Result, Ok, Err, ⊤}
 use Rattle.std.specs.BTreeMap as tree
 use Rattle.std.specs.BTreeMap.{BTreeMap}
-use Rattle.std.specs.List.{AllByRecursion}
 use Rattle.std.specs.Ordering.{is_eq}
 use Rattle.std.specs.declared.cmp.Ordering.{Ordering}
 use Rattle.arrayvec.specs.ArrayVec.{ArrayVec}
@@ -15,22 +14,16 @@ use Rattle.cell_values.specs.declared.schema.Bounds.{Bounds}
 use Rattle.cell_values.specs.declared.schema.Dimension.{Dimension}
 use Rattle.cell_values.specs.declared.schema.Schema.{Schema}
 use Rattle.cell_values.specs.Schemas.{IsValid}
-use Rattle.array_rows.specs.Arrays.{AreRowsOf}
 use Rattle.array_rows.specs.Boxes.{bounds_of, is_inside, within}
-use Rattle.array_rows.specs.Rows.{in_order}
 use Rattle.array_geom.specs.declared.chunk.Chunk.{Chunk}
 use Rattle.array_geom.specs.Geometry.{ChunkNumber, HasFrame, frame}
-use Rattle.array_geom.specs.Link.{IsPart, chunk_rows, number_order}
-use Rattle.array_parts.specs.Made.{IsPlaced}
-use Rattle.chunk_cells.specs.Fitted.{HasValues}
-use Rattle.logical_plan.specs.CellOps.{fit_rows}
+use Rattle.array_geom.specs.Link.{IsPart, number_order}
 use Rattle.logical_plan.specs.Redimension.{Origin, landed, origin_of, value_origin}
 use Rattle.redimension_fill.specs.declared.filling.chunks.Filled.{Filled}
 use Rattle.redimension_fill.specs.declared.places.landing.Step.{Step}
 use Rattle.redimension_fill.specs.declared.places.landing.Step.TheVariants.{Lands, Drops, Breaks}
 use Rattle.redimension_fill.specs.declared.places.places.Place.{Place}
 use Rattle.redimension_fill.specs.Inner.Counting.{AreCountsOf}
-use Rattle.redimension_fill.specs.Inner.Sorting.{AreDifferent}
 use Rattle.redimension_fill.specs.Inner.Steps.{AreSteps, IsStep, continued, targets_of}
 
 -- ---- chunks by their numbers
@@ -137,29 +130,3 @@ HoldsAll target origins bounds values rows (Err broken) = Err broken ≡ continu
 abbrev pub HoldsLanded : Schema → Schema → List Row → Result (BTreeMap (ArrayVec ℕ) Chunk) Broken → Type 0
 HoldsLanded source target =
     HoldsAll target (map (origin_of source) target.dimensions) (bounds_of target.dimensions) (map (value_origin source) target.attributes)
-
--- ---- the rows in order
-
--- in row-major order, the values fitted to the attributes
-abbrev pub told_rows : Schema → List Row → List Row
-told_rows target rows = fit_rows target.attributes (in_order rows)
-
--- a chunk whose rows can be told: none stands where another does, and in order they have the attributes' values
-pub record CanBeTold (target : Schema) (margins : List ℕ) (made : List Row) (chunk : Chunk) : Type 0 where
-  pub framed : HasFrame target margins chunk.at.items
-  pub part : IsPart target.dimensions margins made chunk
-  pub apart : AreDifferent made
-  pub values : AllByRecursion (λ row. HasValues target.attributes row.cell) (in_order made)
-
--- the chunk with its rows in order
-pub record IsToldOf (target : Schema) (margins : List ℕ) (chunk told : Chunk) : Type 0 where
-  pub at : told.at ≡ chunk.at
-  pub placed : IsPlaced target.dimensions margins told
-  pub rows : chunk_rows target.dimensions margins told ≡ told_rows target (chunk_rows target.dimensions margins chunk)
-
--- chunks that hold rows at different coordinates, which are in order those of an array of the target
-pub record CanTell (target : Schema) (chunks : BTreeMap (ArrayVec ℕ) Chunk) : Type 0 where
-  pub made : List Row
-  pub held : AreHeld target made chunks
-  pub apart : AreDifferent made
-  pub rows_of : AreRowsOf target (in_order made)

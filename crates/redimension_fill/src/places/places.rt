@@ -9,7 +9,7 @@ ghost use Rattle.redimension_fill.specs.Inner.Places.{origin};
 use cell_values::{Attribute, Dimension, Kind, List, Memory, Name, Schema};
 
 /// Where a number of a target's coordinate, or a value of its cell, comes from.
-#[derive(Clone, Copy, Debug, PartialEq, Eq)]
+#[derive(Clone, Copy)]
 pub enum Place {
     /// The source's dimension in this place, from 0.
     OfDimension(usize),

@@ -5,8 +5,8 @@ use Rattle.afl_outside.specs.Counts.{Rose}
 use Rattle.afl_outside.specs.Sink.{SinkState, IsNewSink}
 use Rattle.afl_outside.specs.Source.{SourceState}
 use Rattle.afl_outside.specs.Shelf.{ShelfState}
-use Rattle.session_reports.specs.declared.notices.Notice.{Notice}
-use Rattle.session_reports.specs.declared.notices.Notice.TheVariants as notices
+use Rattle.run_opening.specs.declared.reports.notices.Notice.{Notice}
+use Rattle.run_opening.specs.declared.reports.notices.Notice.TheVariants as notices
 use Rattle.run_opening.specs.Names.{Word}
 use Rattle.run_opening.specs.Opened.{HandsOut, LeavesUnasked, StopsAtScript}
 

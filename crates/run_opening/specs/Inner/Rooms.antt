@@ -2,7 +2,7 @@
 use Rattle.std.specs.Prelude.{◌≡◌, ◌≤◌, List, [], ◌∷◌, length, map, vec_capacity}
 use Rattle.std.specs.List.{AllByRecursion}
 use Rattle.afl_lexer.specs.Inner.Standing.{Splitting, StandsAfter}
-use Rattle.session_reports.specs.declared.reports.Streams.{Streams}
+use Rattle.run_opening.specs.declared.reports.reports.Streams.{Streams}
 use Rattle.run_opening.specs.Names.{Word, reply_name}
 use Rattle.run_opening.specs.declared.opening.room.Room.{Room}
 

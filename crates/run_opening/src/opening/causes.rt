@@ -2,8 +2,8 @@
 ghost use Rattle.std.specs.Prelude.{◌≡◌, ◌⊎◌, ◌≤◌};
 ghost use Rattle.afl_outside.specs.Counts.{Rose};
 
+use crate::reports::Notice;
 use afl_outside::has_risen;
-use session_reports::Notice;
 
 /// A call of the shelf found no memory, or else it failed, which this notice tells.
 pub(crate) fn unopened_notice(before: u64, now: u64, fault: Notice) -> Notice

@@ -6,8 +6,8 @@ ghost use Rattle.afl_outside.specs.Shelf.{LeavesOthers};
 ghost use Rattle.run_opening.specs.Opened.{FailsToOpenDevice};
 
 use crate::opening::causes::unopened_notice;
+use crate::reports::Notice;
 use afl_outside::{Failed, Shelf};
-use session_reports::Notice;
 
 /// The device of this name, or what is told where it isn't opened.
 pub fn open_device<F: Shelf>(shelf: &mut F, name: &str) -> Result<F::Device, Notice>

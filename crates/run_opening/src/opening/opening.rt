@@ -7,10 +7,10 @@ ghost use Rattle.run_opening.specs.Inner.Rooms.{HasRoom};
 use crate::opening::replies::open_replies;
 use crate::opening::room::Room;
 use crate::opening::scripts::open_scripts;
+use crate::reports::{Notice, Streams};
 use afl_outside::Shelf;
 use cell_values::{List, Memory};
 use command_words::Arg;
-use session_reports::{Notice, Streams};
 use std::alloc::Global;
 
 /// Opens the scripts of all sessions in order, and then their replies. The memory that sessions take before their first statement is there

@@ -10,10 +10,10 @@ ghost use Rattle.run_opening.specs.Opened.{FailsFor, HandsOut, HandsOutSome, IsS
 ghost use Rattle.run_opening.specs.Inner.Replying.{FailsAtReply, StopsAmong};
 
 use crate::opening::causes::unopened_notice;
+use crate::reports::Notice;
 use afl_outside::{Failed, Shelf};
 use cell_values::Memory;
 use command_words::Arg;
-use session_reports::Notice;
 use std::alloc::Global;
 
 /// The name of the reply of a script.

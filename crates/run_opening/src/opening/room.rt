@@ -6,10 +6,10 @@ ghost use Rattle.run_opening.specs.Names.{reply_name};
 ghost use Rattle.run_opening.specs.Inner.Rooms.{HasRoom, streams_of};
 
 use crate::opening::replies::reply_name;
+use crate::reports::Streams;
 use afl_lexer::Splitter;
 use cell_values::{List, Memory};
 use command_words::Arg;
-use session_reports::Streams;
 use std::alloc::Global;
 
 /// What all sessions need before anything is opened: room for the streams, a splitter for each, and the names of the replies.

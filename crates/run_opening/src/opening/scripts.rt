@@ -8,9 +8,9 @@ ghost use Rattle.run_opening.specs.Opened.{FailsFor, FailsToOpen, IsSourceOf, Le
 ghost use Rattle.run_opening.specs.Inner.Replying.{StopsAmongScripts};
 
 use crate::opening::causes::unopened_notice;
+use crate::reports::Notice;
 use afl_outside::{Failed, Shelf};
 use command_words::Arg;
-use session_reports::Notice;
 
 /// The script of this name, which is this session's, or what is told where it isn't opened.
 fn open_script<F: Shelf>(shelf: &mut F, session: u32, name: &str) -> Result<F::S, Notice>

@@ -1,15 +1,15 @@
 //! The end of a run.
 ghost use Rattle.std.specs.Prelude.{◌≡◌, ◌≤◌, ◌⊎◌, length};
-ghost use Rattle.session_reports.specs.Outcomes.{notice_of};
+ghost use Rattle.run_opening.specs.Outcomes.{notice_of};
 ghost use Rattle.store_state.specs.At.{standing};
 ghost use Rattle.store_state.specs.Standings.{Standing};
 ghost use Rattle.run_opening.specs.Ends.{IsClosed, IsReaped};
 
+use crate::reports::{Notice, SessionReport, notice_after};
 use afl_outside::Disk;
 use array_store::Store;
 use cell_values::{List, Memory};
 use event_core::Entry;
-use session_reports::{Notice, SessionReport, notice_after};
 
 /// What came of sessions over a store.
 #[derive(Drop)]

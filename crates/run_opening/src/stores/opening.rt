@@ -1,15 +1,15 @@
 //! The store of a run.
 ghost use Rattle.std.specs.Prelude.{◌≡◌, IfErr, IfOk, MatchResult};
 ghost use Rattle.array_store.specs.Starts.{start_of};
-ghost use Rattle.page_slots.specs.Puts.{OnlySyncs};
+ghost use Rattle.page_chain.specs.Puts.{OnlySyncs};
 ghost use Rattle.store_opening.specs.Opened.{IsNew};
 ghost use Rattle.store_state.specs.At.{standing};
 ghost use Rattle.run_opening.specs.Began.{BeganOver, TellsUnopened, notice_of_cause};
 
+use crate::reports::Notice;
 use afl_outside::Disk;
 use array_store::Store;
 use page_file::OpenCause;
-use session_reports::Notice;
 use std::alloc::Global;
 use store_opening::Limits;
 

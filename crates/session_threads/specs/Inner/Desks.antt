@@ -9,13 +9,13 @@ use Rattle.store_state.specs.Events.{owner_of}
 use Rattle.snapshot_manager.specs.declared.seat.Seat.{Seat}
 use Rattle.snapshot_manager.specs.declared.shared.Shared.{Shared}
 use Rattle.snapshot_manager.specs.Seats.{seen, session_of, start, IsIdle, IsNewSeat, IsSeatOf}
-use Rattle.session_reports.specs.declared.reports.SessionReport.{SessionReport}
+use Rattle.run_opening.specs.declared.reports.reports.SessionReport.{SessionReport}
 use Rattle.afl_session.specs.Marked.{IsMarked}
 use Rattle.afl_session.specs.Session.{Serves}
 use Rattle.afl_session.specs.Style.{Style}
 use Rattle.session_threads.specs.declared.desk.Desk.{Desk}
 use Rattle.session_threads.specs.declared.desk.Desk.TheVariants.{Waiting, Working, Done}
-use Rattle.session_reports.specs.declared.reports.Streams.{Streams}
+use Rattle.run_opening.specs.declared.reports.reports.Streams.{Streams}
 
 module _ {D S K : Type 0} where
   -- a desk with this seat and these streams, whose session waits

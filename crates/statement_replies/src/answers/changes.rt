@@ -20,7 +20,7 @@ use crate::replies::{Reply, Style, accepted_reply, change_lines, refuse};
 use afl_outside::Gate;
 use array_geom::Changed;
 use cell_values::{Broken, Memory, Name, Schema};
-use changed_chunks::{Asking, changed};
+use changed_chunks::{Asking, changed, let_go_changed};
 use chunk_source::{ChunkSource, ExecFault};
 use logical_plan::{Leaf, Names};
 use plan_changes::{Change, has_its_names, let_go_change, newest_of};
@@ -173,7 +173,7 @@ fn offered<S: ChunkSource>(
     match reply_of_change(alloc, style, change, names, source, target) {
         Ok(reply) => Ok(Offer { changed, reply }),
         Err(fault) => {
-            drop(changed);
+            let_go_changed(changed);
             Err(fault)
         }
     }

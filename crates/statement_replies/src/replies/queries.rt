@@ -27,6 +27,7 @@ use afl_trees::Tree;
 use afl_types::query_plan;
 use array_geom::ChunkedArray;
 use cell_values::{Broken, Bytes, Memory, copy_coord};
+use changed_chunks::let_go_array;
 use check_rules::TypeFault;
 use chunk_exec::{PlanArray, array_of};
 use chunk_source::{ChunkSource, ExecFault};
@@ -102,7 +103,7 @@ pub fn answer_query<S: ChunkSource, R: Threads + Sync, G: Gate>(
     match array_of(rt, alloc, plan, source, workers, session, gate) {
         Ok(found) => {
             let answer = reply_with_lines(alloc, style, plan, source, &found);
-            drop(found);
+            let_go_array(found);
             answer
         }
         Err(fault) => Err(fault),

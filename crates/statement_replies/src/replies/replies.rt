@@ -7,7 +7,7 @@ use result_print::{Refusal, refusal_line};
 use std::alloc::Global;
 
 /// What a statement is answered.
-#[derive(Debug, Drop)]
+#[derive(Drop)]
 pub struct Reply {
     pub text: Bytes,
     pub refusal: Option<Refusal>,

@@ -1,7 +1,7 @@
 //! How replies are printed.
 
 /// How replies are printed.
-#[derive(Clone, Copy, Debug)]
+#[derive(Clone, Copy)]
 pub struct Style {
     /// An array is printed as CSV.
     pub csv: bool,

@@ -1,11 +1,11 @@
 -- What a ledger keeps.
 use Rattle.std.specs.Prelude.{◌≡◌, ◌≤◌, ◌+◌, ℕ, Bool, if◌then◌else◌, List, length, reverse, IsTrue}
 use Rattle.std.specs.List.{sum_by}
-use Rattle.lean_core.specs.Core.{Core}
+use Rattle.store_versions.specs.Core.{Core}
 use Rattle.event_core.specs.Allowed.{IsBase, is_allowed}
-use Rattle.lean_core.specs.History.{History, OpenPin, open_pins}
-use Rattle.lean_core.specs.Legal.{has_committed}
-use Rattle.lean_core.specs.Replay.{core_at}
+use Rattle.store_versions.specs.History.{History, OpenPin, open_pins}
+use Rattle.store_versions.specs.Legal.{has_committed}
+use Rattle.store_versions.specs.Replay.{core_at}
 use Rattle.store_ledger.specs.declared.note.Note.{Note}
 use Rattle.store_ledger.specs.declared.note.NoteKind.{NoteKind}
 use Rattle.store_ledger.specs.Ledger.{AreFew, AreNoted, has_note, reserved_by, is_tried, is_fault}

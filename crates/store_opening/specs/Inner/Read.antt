@@ -1,11 +1,11 @@
 -- What is read of a file that was just opened.
 use Rattle.std.specs.Prelude.{◌≡◌, ℕ, List, [], map, Option, None, IfSome, IsTrue, Result, Ok, Err}
 use Rattle.afl_outside.specs.Disk.{Moment, Only}
-use Rattle.page_slots.specs.Opens.{OpensAs}
+use Rattle.page_chain.specs.Opens.{OpensAs}
 use Rattle.page_chain.specs.declared.fault.OpenCause.{OpenCause}
 use Rattle.page_chain.specs.declared.fault.OpenCause.TheVariants.{Disk, NotDatabase, Memory}
-use Rattle.page_slots.specs.Standing.{IsSound}
-use Rattle.page_slots.specs.declared.slots.slots.Slots.{Slots}
+use Rattle.page_chain.specs.Standing.{IsSound}
+use Rattle.page_chain.specs.declared.slots.slots.slots.Slots.{Slots}
 use Rattle.page_file.specs.FilesOpened.{OpenFile}
 use Rattle.page_file.specs.OpeningOpened.{AreFresh}
 use Rattle.version_catalog.specs.Catalogs.{names_in}

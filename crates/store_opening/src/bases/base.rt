@@ -14,7 +14,7 @@ ghost use Rattle.store_opening.specs.Bases.{array_pages, base_core, catalogue_wi
 
 use cell_values::{List, Memory, Name};
 use chunk_map::{DirEntry, Directory};
-use event_core::{Core, VersionPages};
+use event_core::{Core, VersionPages, let_go_core};
 use file_meaning::Found;
 use logical_plan::Names;
 use std::alloc::Global;
@@ -265,6 +265,9 @@ pub fn base_of(alloc: Global, found: &Found, log: u32, limit: u32) -> Result<Cor
     let mut core = nothing(alloc, limit);
     match fill(&mut core, found, log) {
         Ok(()) => Ok(core),
-        Err(want) => Err(want),
+        Err(want) => {
+            let_go_core(core);
+            Err(want)
+        }
     }
 }

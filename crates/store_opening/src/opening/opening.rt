@@ -1,6 +1,6 @@
 //! A store is opened over a disk.
 ghost use Rattle.std.specs.Prelude.{◌≡◌, IfSome, IfOk, IfErr, MatchResult};
-ghost use Rattle.page_slots.specs.Puts.{OnlySyncs};
+ghost use Rattle.page_chain.specs.Puts.{OnlySyncs};
 ghost use Rattle.store_state.specs.At.{AreParts, standing};
 ghost use Rattle.store_opening.specs.Opened.{HasCause, HasFound, IsNew, IsToldBy, WasOpened};
 ghost use Rattle.store_opening.specs.Inner.Read.{IsOpenFile, IsPutTogether};
@@ -10,10 +10,11 @@ use afl_outside::Disk;
 use page_file::{OpenCause, PageFile};
 use std::alloc::Global;
 use std::snapshot::Snapshot;
+use store_ledger::let_go_seen;
 use store_state::StoreParts;
 
 /// How much a store may use.
-#[derive(Clone, Copy, Debug)]
+#[derive(Clone, Copy)]
 pub struct Limits {
     /// The pages of its file.
     pub pages: u32,
@@ -69,7 +70,10 @@ fn open_parts<D: Disk>(
     let opened = Snapshot::of(&file);
     match read_parts(alloc, &mut file, limits) {
         Ok(read) => Ok(put_together(alloc, file, opened, read)),
-        Err(cause) => Err((cause, file.close())),
+        Err(cause) => {
+            let_go_seen(opened);
+            Err((cause, file.close()))
+        }
     }
 }
 

@@ -2,7 +2,7 @@
 ghost use Rattle.std.specs.Prelude.{◌≡◌, ◌≤◌, ℕ, List, length, IfSome, IfOk, IfErr, IsErrOf};
 ghost use Rattle.afl_outside.specs.Counts.{Rose};
 ghost use Rattle.page_chain.specs.Inner.Runs.{OnlyReads};
-ghost use Rattle.page_slots.specs.Standing.{IsSound};
+ghost use Rattle.page_chain.specs.Standing.{IsSound};
 ghost use Rattle.version_catalog.specs.Catalogs.{names_in};
 ghost use Rattle.event_core.specs.History.{names_at};
 ghost use Rattle.file_meaning.specs.Opening.{found_in};
@@ -14,11 +14,11 @@ use crate::bases::base_of;
 use crate::opening::Limits;
 use afl_outside::Disk;
 use cell_values::Memory;
-use file_meaning::Found;
+use file_meaning::{Found, let_go_catalog, let_go_found};
 use file_reading::read_found;
 use page_file::{OpenCause, PageFile};
 use std::alloc::Global;
-use store_ledger::Ledger;
+use store_ledger::{Ledger, let_go_ledger};
 use store_versions::VersionTable;
 use version_catalog::Catalog;
 
@@ -61,8 +61,8 @@ fn with_table(ledger: Ledger, found: Found) -> Result<ReadParts, Memory>
             table,
         }),
         Err(want) => {
-            drop(catalog);
-            drop(ledger);
+            let_go_catalog(catalog);
+            let_go_ledger(ledger);
             Err(want)
         }
     }
@@ -76,7 +76,7 @@ fn parts_of(alloc: Global, found: Found, log: u32, limits: Limits) -> Result<Rea
     match ledger_of(alloc, &found, log, limits) {
         Ok(ledger) => with_table(ledger, found),
         Err(want) => {
-            drop(found);
+            let_go_found(found);
             Err(want)
         }
     }

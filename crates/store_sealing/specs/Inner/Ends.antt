@@ -4,7 +4,7 @@ use Rattle.afl_outside.specs.declared.source.Failed.{Failed}
 use Rattle.chunk_map.specs.declared.directory.Directory.{Directory}
 use Rattle.plan_changes.specs.declared.change.Change.{Change}
 use Rattle.version_catalog.specs.declared.rules.catalog.Catalog.{Catalog}
-use Rattle.commit_writes.specs.declared.stopped.Stopped.{Stopped}
+use Rattle.page_file.specs.declared.commits.stopped.Stopped.{Stopped}
 use Rattle.event_core.specs.History.{names_at}
 use Rattle.store_ledger.specs.Ledger.{LedgerState, history, with_entries, with_fault}
 use Rattle.store_versions.specs.declared.row.VersionRow.{VersionRow}

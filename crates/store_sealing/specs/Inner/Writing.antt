@@ -4,13 +4,13 @@ use Rattle.std.specs.List.{AllByRecursion}
 use Rattle.afl_outside.specs.Counts.{Rose}
 use Rattle.afl_outside.specs.Disk.{DiskGoesOn, FailsWithCause, Moment}
 use Rattle.page_file.specs.Written.{MayWrite}
-use Rattle.page_slots.specs.Standing.{IsTarget}
-use Rattle.page_slots.specs.declared.slots.slots.Slots.{Slots}
-use Rattle.page_slots.specs.declared.slots.slots.Target.TheVariants as targets
-use Rattle.commit_writes.specs.declared.placed.Placed.{Placed}
-use Rattle.commit_writes.specs.declared.stopped.Stopped.{Stopped}
-use Rattle.commit_writes.specs.Commits.{base_pages, commit_pages, IsBlobSized, IsChainSized}
-use Rattle.commit_writes.specs.Moments.{PassesBy, StaysKnown}
+use Rattle.page_chain.specs.Standing.{IsTarget}
+use Rattle.page_chain.specs.declared.slots.slots.slots.Slots.{Slots}
+use Rattle.page_chain.specs.declared.slots.slots.slots.Target.TheVariants as targets
+use Rattle.page_file.specs.declared.commits.placed.Placed.{Placed}
+use Rattle.page_file.specs.declared.commits.stopped.Stopped.{Stopped}
+use Rattle.page_file.specs.Commits.{base_pages, commit_pages, IsBlobSized, IsChainSized}
+use Rattle.page_file.specs.Moments.{PassesBy, StaysKnown}
 use Rattle.prepared_commits.specs.declared.commits.prepared.NewBase.{NewBase}
 use Rattle.store_sealing.specs.Moves.{IsDone, NewIn, StopsAt, own_pages, slot_page}
 

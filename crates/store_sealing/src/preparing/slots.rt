@@ -4,8 +4,8 @@ ghost use Rattle.file_meaning.specs.Opening.{sequence_of};
 ghost use Rattle.prepared_commits.specs.Standings.{current_slots};
 
 use afl_outside::Disk;
+use page_chain::{Slot, Target};
 use page_file::PageFile;
-use page_slots::{Slot, Target};
 
 /// What the next commit opens.
 pub(crate) fn target_of<D: Disk>(file: &PageFile<D>) -> Target

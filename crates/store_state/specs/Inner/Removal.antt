@@ -1,10 +1,10 @@
 -- An array that is removed by a new base: what is laid of it is what its file has.
 use Rattle.std.specs.Prelude.{[], ◌∷◌, None}
-use Rattle.page_slots.specs.Places.{KeepsPages}
+use Rattle.page_chain.specs.Places.{KeepsPages}
 use Rattle.chunk_map.specs.declared.directory.Directory.{Directory}
 use Rattle.commit_pages.specs.declared.pages.laid.Laid.{Laid}
 use Rattle.commit_pages.specs.Commits.{base_laid}
-use Rattle.commit_writes.specs.Commits.{base_pages, HoldsAll}
+use Rattle.page_file.specs.Commits.{base_pages, HoldsAll}
 use Rattle.file_meaning.specs.Inner.FileExample.{database, file}
 use Rattle.file_meaning.specs.Inner.NextExample.{found, slots}
 use Rattle.file_meaning.specs.Inner.Removed.{change, next}

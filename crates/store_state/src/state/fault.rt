@@ -1,7 +1,7 @@
 //! Why a store gives no chunk.
 
 /// Why a chunk can't be read.
-#[derive(Debug, Clone, Copy)]
+#[derive(Clone, Copy)]
 pub enum ReadFault {
     /// The disk failed.
     Disk,

@@ -9,7 +9,7 @@ ghost use Rattle.std.specs.Ordering.{is_eq};
 ghost use Rattle.array_geom.specs.Link.{number_order};
 ghost use Rattle.page_chain.specs.Pages.{page_size, pages_for};
 ghost use Rattle.page_chain.specs.Inner.Runs.{OnlyReads};
-ghost use Rattle.page_slots.specs.Standing.{IsSound};
+ghost use Rattle.page_chain.specs.Standing.{IsSound};
 ghost use Rattle.chunk_rle.specs.Stored.{IsStored};
 ghost use Rattle.store_state.specs.Calls.{IsRead};
 ghost use Rattle.store_state.specs.Inner.Decoded.{IsDecoded, IsToldBy};

@@ -1,8 +1,8 @@
 //! Runs of a command line.
 
-use crate::reports::files::file_left;
-use afl_in_memory::MemShelf;
-use afl_outside::{Gate, OpenGate};
+use crate::reports::files::{device_of, file_left};
+use crate::reports::told::push_report;
+use afl_outside::{Gate, MemShelf, OpenGate};
 use afl_run::{Arg, Report, let_go_report, run};
 use cell_values::{Bytes, Memory};
 use std::alloc::{AllocError, Global};
@@ -48,4 +48,23 @@ pub(crate) fn file_behind<R: AllocGlobal + Threads + Wait + Sync>(
     let left = file_left(rt.alloc(), &report);
     let_go_report(report);
     left
+}
+
+/// The file of a new database.
+pub(crate) fn new_file<R: AllocGlobal + Threads + Wait + Sync>(rt: &R) -> Result<Bytes, Memory> {
+    file_behind(rt, "init db", device_of(rt.alloc(), 0, &[])?)
+}
+
+/// Runs a command line over these files, and tells what comes of it: the device too, if that is wanted.
+pub(crate) fn push_run<R: AllocGlobal + Threads + Wait + Sync>(
+    rt: &R,
+    out: &mut String,
+    line: &str,
+    shelf: MemShelf,
+    tells_device: bool,
+) -> Result<(), Memory> {
+    let report = report_of(rt, line, shelf, &OpenGate)?;
+    let told = push_report(out, &report, tells_device);
+    let_go_report(report);
+    told
 }

@@ -1,11 +1,11 @@
 //! What is told of a run.
 
-use crate::reports::files::image_of;
-use afl_in_memory::{MemDisk, MemShelf};
+use afl_outside::{MemDisk, MemShelf};
 use afl_run::{Report, SessionEnd, notice_line};
 use cell_values::Memory;
 use std::str::from_utf8;
-use test_kit::{push_count, push_word, push_words};
+use test_kit::{disk_bytes, push_word, push_words};
+use test_stores::push_numbered;
 
 /// Adds bytes that are a text.
 pub(crate) fn push_bytes(out: &mut String, bytes: &[u8]) -> Result<(), Memory> {
@@ -20,30 +20,28 @@ pub(crate) fn push_notice(out: &mut String, report: &Report<MemShelf>) -> Result
     told
 }
 
-/// What it was that ended a session.
-fn end_word(end: SessionEnd) -> &'static str {
+/// What it was that ended a session: at the head of a text, and in it.
+pub(crate) fn end_words(end: SessionEnd) -> (&'static str, &'static str) {
     match end {
-        SessionEnd::Whole => "Whole",
-        SessionEnd::Source => "Source",
-        SessionEnd::Sink => "Sink",
-        SessionEnd::Memory => "Memory",
+        SessionEnd::Whole => ("Whole", "whole"),
+        SessionEnd::Source => ("Source", "source"),
+        SessionEnd::Sink => ("Sink", "sink"),
+        SessionEnd::Memory => ("Memory", "memory"),
     }
 }
 
 /// Adds how many bytes a device has.
 fn push_length(out: &mut String, disk: &MemDisk) -> Result<(), Memory> {
-    let image = image_of(disk)?;
+    let image = disk_bytes(disk)?;
     let length = image.len() as u64;
     drop(image);
-    push_word(out, "device of ")?;
-    push_count(out, length)?;
-    push_word(out, " bytes, ")
+    push_numbered(out, "device of ", length, " bytes, ")
 }
 
 /// Adds what a session has written, and how it ended.
 fn push_session(out: &mut String, text: &[u8], end: SessionEnd) -> Result<(), Memory> {
     push_bytes(out, text)?;
-    push_words(out, &[end_word(end), ", "])
+    push_words(out, &[end_words(end).0, ", "])
 }
 
 /// Adds what the sessions have written, and how they ended.
@@ -57,25 +55,18 @@ fn push_sessions(out: &mut String, report: &Report<MemShelf>) -> Result<(), Memo
     }
 }
 
-/// Adds the status and the line of the run.
-fn push_end(out: &mut String, report: &Report<MemShelf>) -> Result<(), Memory> {
-    push_word(out, "status ")?;
-    push_count(out, u64::from(report.status))?;
-    push_word(out, "\n")?;
-    push_notice(out, report)
-}
-
-/// Adds what the sessions have written, how they ended, and the status and line of the run.
-pub(crate) fn push_replies(out: &mut String, report: &Report<MemShelf>) -> Result<(), Memory> {
+/// Adds what the sessions have written, how they ended, how many bytes the device has that was opened, if that is wanted, and the status
+/// and line of the run.
+pub(crate) fn push_report(
+    out: &mut String,
+    report: &Report<MemShelf>,
+    tells_device: bool,
+) -> Result<(), Memory> {
     push_sessions(out, report)?;
-    push_end(out, report)
-}
-
-/// The same, and how many bytes the device has that was opened.
-pub(crate) fn push_report(out: &mut String, report: &Report<MemShelf>) -> Result<(), Memory> {
-    push_sessions(out, report)?;
-    if let Some(disk) = &report.disk {
-        push_length(out, disk)?;
+    match &report.disk {
+        Some(disk) if tells_device => push_length(out, disk)?,
+        _ => {}
     }
-    push_end(out, report)
+    push_numbered(out, "status ", u64::from(report.status), "\n")?;
+    push_notice(out, report)
 }

@@ -1,118 +1,62 @@
 //! Runs over a file in memory.
 
-use crate::reports::{file_behind, file_left, file_of, push_bytes, push_notice, report_of};
+use crate::reports::{
+    end_words, file_behind, file_left, new_file, push_bytes, push_notice, report_of, shelf_of,
+};
 use crate::sessions::order::Ordered;
-use crate::sessions::scripts::script_of;
-use afl_in_memory::{MemFile, MemShelf};
-use afl_outside::OpenGate;
-use afl_run::{Report, SessionEnd, let_go_report};
-use cell_values::{Bytes, List, Memory};
+use afl_outside::{MemShelf, OpenGate};
+use afl_run::{Report, let_go_report};
+use cell_values::{Bytes, Memory};
 use std::alloc::{AllocError, Global};
 use std::sync::Wait;
 use std::thread::Threads;
 use std::time::Clock;
-use test_kit::{push_count, push_word, push_words};
-
-/// The name of the script of a session.
-fn name_of(session: usize) -> &'static str {
-    match session {
-        0 => "0",
-        _ => "1",
-    }
-}
-
-/// Adds the script of a session to the files of a shelf.
-fn push_script(
-    files: &mut List<MemFile>,
-    alloc: Global,
-    session: usize,
-    text: &str,
-) -> Result<(), Memory> {
-    let script = script_of(alloc, text)?;
-    let file = file_of(alloc, name_of(session).as_bytes(), script.as_bytes(), &[]);
-    drop(script);
-    files.push(file?)
-}
-
-/// The file `db` and these scripts.
-fn files_of(alloc: Global, file: &[u8], scripts: &[&str]) -> Result<List<MemFile>, Memory> {
-    let mut files = List::new(alloc);
-    files.push(file_of(alloc, b"db", file, &[])?)?;
-    for (session, text) in scripts.iter().enumerate() {
-        push_script(&mut files, alloc, session, text)?;
-    }
-    Ok(files)
-}
-
-/// A shelf with the file `db` and these scripts.
-fn shelf_of(alloc: Global, file: &[u8], scripts: &[&str]) -> Result<MemShelf, Memory> {
-    let files = files_of(alloc, file, scripts)?;
-    Ok(MemShelf::new(files, List::new(alloc), List::new(alloc)))
-}
+use test_kit::{push_word, push_words};
+use test_stores::push_numbered;
 
 /// The file of a new database over which this script was run.
 fn file_before<R: AllocGlobal + Threads + Wait + Sync>(
     rt: &R,
     script: &str,
 ) -> Result<Bytes, Memory> {
-    let file = file_behind(rt, "init db", shelf_of(rt.alloc(), b"", &[])?)?;
-    let shelf = shelf_of(rt.alloc(), file.as_slice(), &[script]);
+    let file = new_file(rt)?;
+    let shelf = shelf_of(rt.alloc(), file.as_slice(), &["0"], &[script]);
     drop(file);
     file_behind(rt, "run db 0", shelf?)
 }
 
-/// A shelf with what a script leaves of a new database, and with these scripts.
+/// A shelf with what a script leaves of a new database, and with the scripts of two sessions.
 fn shelf_behind<R: AllocGlobal + Threads + Wait + Sync>(
     rt: &R,
     before: &str,
     scripts: &[&str],
 ) -> Result<MemShelf, Memory> {
     let file = file_before(rt, before)?;
-    let shelf = shelf_of(rt.alloc(), file.as_slice(), scripts);
+    let shelf = shelf_of(rt.alloc(), file.as_slice(), &["0", "1"], scripts);
     drop(file);
     shelf
-}
-
-/// What it was that ended a session.
-fn end_word(end: SessionEnd) -> &'static str {
-    match end {
-        SessionEnd::Whole => "whole",
-        SessionEnd::Source => "source",
-        SessionEnd::Sink => "sink",
-        SessionEnd::Memory => "memory",
-    }
-}
-
-/// Adds what a session has written, and how it ended.
-fn push_session(
-    out: &mut String,
-    session: usize,
-    end: SessionEnd,
-    text: &[u8],
-) -> Result<(), Memory> {
-    push_word(out, "session ")?;
-    push_count(out, session as u64)?;
-    push_words(out, &[", ", end_word(end), ":\n"])?;
-    push_bytes(out, text)
 }
 
 /// Adds what each session of a run has written, and how it ended.
 fn push_sessions(out: &mut String, report: &Report<MemShelf>) -> Result<(), Memory> {
     for (session, told) in report.sessions.as_slice().iter().enumerate() {
-        push_session(out, session, told.end, told.sink.bytes())?;
+        push_numbered(out, "session ", session as u64, ", ")?;
+        push_words(out, &[end_words(told.end).1, ":\n"])?;
+        push_bytes(out, told.sink.bytes())?;
     }
     Ok(())
 }
 
 /// Adds the status of a run, and how many entries and free pages it leaves.
 fn push_status(out: &mut String, report: &Report<MemShelf>) -> Result<(), Memory> {
-    push_word(out, "status ")?;
-    push_count(out, u64::from(report.status))?;
-    push_word(out, ", ")?;
-    push_count(out, report.history.as_slice().len() as u64)?;
-    push_word(out, " entries, ")?;
-    push_count(out, report.free_pages)?;
-    push_word(out, " pages free\n")
+    push_numbered(out, "status ", u64::from(report.status), ", ")?;
+    push_numbered(
+        out,
+        "",
+        report.history.as_slice().len() as u64,
+        " entries, ",
+    )?;
+    push_numbered(out, "", report.free_pages, " pages free\n")
 }
 
 /// Adds what a run has written, how it ended, and where it didn't keep its order.
@@ -139,7 +83,7 @@ fn push_after<R: AllocGlobal + Threads + Wait + Sync>(
     script: &str,
 ) -> Result<(), Memory> {
     push_word(out, "after:\n")?;
-    let shelf = shelf_of(rt.alloc(), file, &[script])?;
+    let shelf = shelf_of(rt.alloc(), file, &["0"], &[script])?;
     let report = report_of(rt, "run db 0", shelf, &OpenGate)?;
     let told = push_texts(out, &report);
     let_go_report(report);

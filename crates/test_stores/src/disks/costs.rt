@@ -1,7 +1,7 @@
 //! What calls of a disk cost.
 
 use crate::disks::watch::Watch;
-use afl_in_memory::DeviceCall;
+use afl_outside::DeviceCall;
 use std::alloc::AllocError;
 
 /// How many bytes a page has.

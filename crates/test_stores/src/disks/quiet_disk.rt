@@ -2,8 +2,7 @@
 ghost use Rattle.std.specs.Io.{ReadsAtMost};
 
 use crate::disks::watch::Watch;
-use afl_in_memory::MemDisk;
-use afl_outside::{Disk, Failed};
+use afl_outside::{Disk, Failed, MemDisk};
 use cell_values::Memory;
 use std::alloc::Global;
 use std::cell::{Cell, RefCell};

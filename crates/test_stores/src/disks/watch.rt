@@ -1,11 +1,11 @@
 //! What others see of a disk while a store has it.
 
-use afl_in_memory::{DeviceCall, MemDisk};
+use afl_outside::{DeviceCall, MemDisk};
 use cell_values::{Bytes, Memory};
 use std::alloc::Global;
 use std::cell::{Cell, RefCell};
 use std::rc::Rc;
-use test_files::{bytes_of, kept_by, unsynced};
+use test_kit::{disk_bytes, kept_by, unsynced};
 
 /// A disk in memory as those see it who don't have it.
 #[derive(Drop)]
@@ -15,10 +15,16 @@ pub struct Watch {
 }
 
 impl Watch {
-    pub(crate) fn new(alloc: Global, disk: MemDisk) -> Result<Watch, Memory> {
+    /// What others see of this disk.
+    pub fn new(alloc: Global, disk: MemDisk) -> Result<Watch, Memory> {
         let disk = Rc::new(alloc, RefCell::new(disk))?;
         let failing = Rc::new(alloc, Cell::new(0))?;
         Ok(Watch { disk, failing })
+    }
+
+    /// Lets it go. That this can be done is proved here, and not again where disks are watched.
+    pub fn let_go(self) {
+        drop(self);
     }
 
     /// The call of this number from now on, from 1, fails. A write that fails has written its bytes.
@@ -37,7 +43,7 @@ impl Watch {
     /// The bytes that the disk holds.
     pub fn bytes(&self) -> Result<Bytes, Memory> {
         match self.disk.try_borrow() {
-            Ok(disk) => bytes_of(&*disk),
+            Ok(disk) => disk_bytes(&*disk),
             Err(_) => Err(Memory),
         }
     }

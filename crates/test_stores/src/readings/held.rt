@@ -4,14 +4,15 @@ ghost use Rattle.test_stores.specs.Holds.{HasNoPins};
 use crate::disks::QuietDisk;
 use crate::readings::versions::whole;
 use crate::stores::{Answer, let_go_store, once, opened};
-use array_store::Store;
+use array_store::{Limits, Store};
 use cell_values::{Bytes, Memory};
 use std::alloc::Global;
 use std::thread::Threads;
-use store_opening::Limits;
 use store_state::ReadFault;
+use test_kit::disk_of;
 
-fn answered<R: Threads + Sync>(
+/// What a change is answered over the store of a disk.
+pub(crate) fn answered<R: Threads + Sync>(
     rt: &R,
     alloc: Global,
     disk: QuietDisk,
@@ -36,10 +37,7 @@ pub fn push_answered<R: Threads + Sync>(
     limits: Limits,
     change: &[u8],
 ) -> Result<(), Memory> {
-    let answer = answered(rt, *out.allocator(), disk, limits, change);
-    let told = answer.push(out);
-    drop(answer);
-    told
+    answered(rt, *out.allocator(), disk, limits, change).tell(out)
 }
 
 fn read_whole(alloc: Global, store: &mut Store<QuietDisk>) -> Result<Option<Bytes>, Memory>
@@ -52,8 +50,10 @@ fn read_whole(alloc: Global, store: &mut Store<QuietDisk>) -> Result<Option<Byte
     }
 }
 
-/// All that a disk holds as a store; none where it isn't one, or can't be read.
-pub fn held_in(alloc: Global, disk: QuietDisk, limits: Limits) -> Result<Option<Bytes>, Memory> {
+/// All that a file holds as a store; none where it isn't one, or can't be read.
+pub fn held_in(alloc: Global, file: Bytes, limits: Limits) -> Result<Option<Bytes>, Memory> {
+    let (disk, watch) = QuietDisk::watched(alloc, disk_of(alloc, file, None)?)?;
+    watch.let_go();
     match opened(alloc, disk, limits) {
         Ok(mut store) => {
             let text = read_whole(alloc, &mut store);

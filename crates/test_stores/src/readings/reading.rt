@@ -41,7 +41,7 @@ fn leaf_in(entry: &NameEntry, name: &Name, version: u32) -> Option<Leaf>
 }
 
 /// A version that can be named.
-pub fn leaf_of(names: &Names, name: &Name, version: u32) -> Option<Leaf>
+pub(crate) fn leaf_of(names: &Names, name: &Name, version: u32) -> Option<Leaf>
     requires { AreStored names.now }
     ensures leaf { IfSome result (IsLeafOf names.now) }
     ensures valid { IfSome result (λ leaf. IsValid leaf.schema) }
@@ -50,6 +50,17 @@ pub fn leaf_of(names: &Names, name: &Name, version: u32) -> Option<Leaf>
         Some(entry) => leaf_in(entry, name, version),
         None => None,
     }
+}
+
+/// The version of a word as `A@1`.
+pub(crate) fn named_leaf(alloc: Global, names: &Names, word: &str) -> Option<Leaf>
+    requires { AreStored names.now }
+    ensures leaf { IfSome result (IsLeafOf names.now) }
+    ensures valid { IfSome result (λ leaf. IsValid leaf.schema) }
+{
+    let (name, version) = word.split_once('@')?;
+    let name = Name::new(Bytes::from_slice(alloc, name.as_bytes()).ok()?)?;
+    leaf_of(names, &name, version.parse::<u32>().unwrap_or(0))
 }
 
 /// The chunk at a place among those of a version; none past the last one.
@@ -94,7 +105,7 @@ fn rows_in(leaf: &Leaf, chunk: Chunk) -> Result<List<Row>, Memory>
 }
 
 /// Adds the rows of a chunk that was read.
-pub fn add_rows(rows: &mut List<Row>, leaf: &Leaf, chunk: Chunk) -> Result<(), Memory>
+pub(crate) fn add_rows(rows: &mut List<Row>, leaf: &Leaf, chunk: Chunk) -> Result<(), Memory>
     requires valid { IsValid leaf.now.schema }
     requires read { IsRead leaf.now.schema chunk }
 {
@@ -136,7 +147,7 @@ fn count<D: Disk>(alloc: Global, store: &Store<D>, pinned: &Pinned, leaf: &Leaf)
 }
 
 /// What a version holds under a pin: its attributes' names, and its cells in lines, chunk by chunk.
-pub fn cells<D: Disk>(
+pub(crate) fn cells<D: Disk>(
     alloc: Global,
     store: &mut Store<D>,
     pinned: &Pinned,

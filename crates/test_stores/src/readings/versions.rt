@@ -19,10 +19,20 @@ fn or_memory(added: Result<(), Memory>) -> Result<(), ReadFault> {
     }
 }
 
-fn push_head(text: &mut Bytes, entry: &NameEntry, version: u32) -> Result<(), Memory> {
-    let head = format!(in text.allocator(); "@{version}\n")?;
-    text.extend(entry.name.as_slice())?;
-    text.extend(head.as_bytes())
+/// Adds the name of an array with a word before it, and a number behind that.
+fn push_head(
+    text: &mut Bytes,
+    before: &str,
+    entry: &NameEntry,
+    between: &str,
+    number: u32,
+) -> Result<(), ReadFault> {
+    let Ok(tail) = format!(in text.allocator(); "{between}{number}\n") else {
+        return Err(ReadFault::Memory);
+    };
+    or_memory(text.extend(before.as_bytes()))?;
+    or_memory(text.extend(entry.name.as_slice()))?;
+    or_memory(text.extend(tail.as_bytes()))
 }
 
 /// Adds a version's name, and then its cells.
@@ -37,7 +47,7 @@ fn add_version<D: Disk>(
     requires stored { AreStored pinned.now.names }
     ensures { IsOpenPin store.new.ledger pinned.now }
 {
-    or_memory(push_head(text, entry, version))?;
+    push_head(text, "", entry, "@", version)?;
     match leaf_of(&pinned.names, &entry.name, version) {
         Some(leaf) => match cells(text.allocator(), store, pinned, &leaf) {
             Ok(lines) => or_memory(text.extend(lines.as_slice())),
@@ -45,13 +55,6 @@ fn add_version<D: Disk>(
         },
         None => Err(ReadFault::Memory),
     }
-}
-
-fn push_array(text: &mut Bytes, entry: &NameEntry) -> Result<(), Memory> {
-    let head = format!(in text.allocator(); ", next {}\n", entry.next)?;
-    text.extend(b"array ")?;
-    text.extend(entry.name.as_slice())?;
-    text.extend(head.as_bytes())
 }
 
 /// Adds an array's name, the number of its next version, and all its versions.
@@ -65,7 +68,7 @@ fn add_array<D: Disk>(
     requires stored { AreStored pinned.now.names }
     ensures { IsOpenPin store.new.ledger pinned.now }
 {
-    or_memory(push_array(text, entry))?;
+    push_head(text, "array ", entry, ", next ", entry.next)?;
     for version in entry.versions.as_slice() {
         add_version(text, store, pinned, entry, *version)?;
     }
@@ -88,7 +91,7 @@ fn add_arrays<D: Disk>(
 }
 
 /// All arrays of a store without pins, with all cells of all versions, under a pin.
-pub fn whole<D: Disk>(alloc: Global, store: &mut Store<D>) -> Result<Bytes, ReadFault>
+pub(crate) fn whole<D: Disk>(alloc: Global, store: &mut Store<D>) -> Result<Bytes, ReadFault>
     requires { HasNoPins store.old.ledger }
 {
     let mut text = Bytes::new(alloc);

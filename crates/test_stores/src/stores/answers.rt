@@ -1,11 +1,11 @@
 //! What a step is answered.
 
-use cell_values::{Bytes, Memory, Name};
+use cell_values::{Bytes, List, Memory, Name};
 use page_file::OpenCause;
 use result_print::{Refusal, refusal_line};
-use std::alloc::AllocError;
 use std::str::from_utf8;
 use store_state::ReadFault;
+use test_kit::{push_count, push_word, push_words};
 
 /// What a step is answered.
 #[derive(Drop)]
@@ -15,13 +15,21 @@ pub enum Answer {
     Made { name: Name, version: u32 },
     /// Lines, each with its line feed.
     Lines(Bytes),
+    /// The numbers of versions.
+    Numbers(List<u32>),
     /// A reap came, or none.
     Reaped(bool),
+    /// The pin or the commit has this place in the history of a shared store.
+    At { place: u64 },
+    /// So many commits were made.
+    Commits(u64),
     /// The session has a pin, or has none.
     HasPin,
     HasNoPin,
     /// The session tried a commit under its pin.
     HasTried,
+    /// The session tried a commit under its pin of a shared store, or read.
+    HasUsed,
     /// No array or version has the name.
     Unknown,
     /// The statement changes nothing.
@@ -31,6 +39,8 @@ pub enum Answer {
     Refused(Refusal),
     /// What the change is about, or what it reads, was changed since the pin.
     Stale,
+    /// So it was, and the turn that was handed out names this version of the array.
+    StaleTo { newest: u32 },
     HistoryFull { entries: u32 },
     Full { needed: u32, free: u32 },
     SequenceEnd,
@@ -40,45 +50,59 @@ pub enum Answer {
     Memory,
 }
 
-fn push_read_fault(out: &mut String, fault: ReadFault) -> Result<(), AllocError> {
+/// Adds a number between two texts.
+pub fn push_numbered(
+    out: &mut String,
+    before: &str,
+    number: u64,
+    behind: &str,
+) -> Result<(), Memory> {
+    push_word(out, before)?;
+    push_count(out, number)?;
+    push_word(out, behind)
+}
+
+fn push_read_fault(out: &mut String, fault: ReadFault) -> Result<(), Memory> {
     match fault {
-        ReadFault::Disk => out.push_str("error: disk\n"),
-        ReadFault::Damaged { page } => writeln!(out, "error: damaged page {page}"),
-        ReadFault::Memory => out.push_str("error: memory\n"),
+        ReadFault::Disk => push_word(out, "error: disk\n"),
+        ReadFault::Damaged { page } => {
+            push_numbered(out, "error: damaged page ", u64::from(page), "\n")
+        }
+        ReadFault::Memory => push_word(out, "error: memory\n"),
     }
 }
 
-fn push_lines(out: &mut String, lines: &Bytes) -> Result<(), AllocError> {
-    out.push_str(from_utf8(lines.as_slice()).unwrap_or("no text\n"))
+fn push_lines(out: &mut String, lines: &Bytes) -> Result<(), Memory> {
+    push_word(out, from_utf8(lines.as_slice()).unwrap_or("no text\n"))
+}
+
+fn push_numbers(out: &mut String, numbers: &[u32]) -> Result<(), Memory> {
+    for number in numbers {
+        push_numbered(out, "", u64::from(*number), " ")?;
+    }
+    push_word(out, "\n")
 }
 
 fn push_refusal(out: &mut String, refusal: &Refusal) -> Result<(), Memory> {
     let line = refusal_line(*out.allocator(), refusal)?;
     let told = push_lines(out, &line);
     drop(line);
-    Ok(told?)
+    told
 }
 
-fn name_text(name: &Name) -> &str {
-    from_utf8(name.as_slice()).unwrap_or("no text")
+fn push_made(out: &mut String, name: &Name, version: u32) -> Result<(), Memory> {
+    let name = from_utf8(name.as_slice()).unwrap_or("no text");
+    push_words(out, &["ok ", name])?;
+    push_numbered(out, "@", u64::from(version), "\n")
 }
 
-fn push_made(out: &mut String, name: &Name, version: u32) -> Result<(), AllocError> {
-    out.push_str("ok ")?;
-    out.push_str(name_text(name))?;
-    writeln!(out, "@{version}")
+fn push_full(out: &mut String, needed: u32, free: u32) -> Result<(), Memory> {
+    push_numbered(out, "error: full: needs ", u64::from(needed), " pages, ")?;
+    push_numbered(out, "", u64::from(free), " free\n")
 }
 
-fn push_full(out: &mut String, needed: u32, free: u32) -> Result<(), AllocError> {
-    writeln!(out, "error: full: needs {needed} pages, {free} free")
-}
-
-fn push_history_full(out: &mut String, entries: u32) -> Result<(), AllocError> {
-    writeln!(out, "error: history full, {entries} entries")
-}
-
-fn push_unopened(out: &mut String, cause: OpenCause) -> Result<(), AllocError> {
-    writeln!(out, "error: {cause}")
+fn push_unopened(out: &mut String, cause: OpenCause) -> Result<(), Memory> {
+    Ok(writeln!(out, "error: {cause}")?)
 }
 
 impl Answer {
@@ -91,6 +115,7 @@ impl Answer {
             Answer::HasPin => "error: the session has a pin\n",
             Answer::HasNoPin => "error: the session has no pin\n",
             Answer::HasTried => "error: the session tried a commit\n",
+            Answer::HasUsed => "error: the session has used its pin\n",
             Answer::Unknown => "error: unknown\n",
             Answer::NoChange => "error: no change\n",
             Answer::Reads => "error: reads\n",
@@ -101,17 +126,41 @@ impl Answer {
         }
     }
 
+    /// Adds an answer that tells a number, or only its line.
+    fn push_plain(&self, out: &mut String) -> Result<(), Memory> {
+        let (before, number, behind) = match self {
+            Answer::At { place } => ("place ", *place, "\n"),
+            Answer::Commits(count) => ("", *count, " commits\n"),
+            Answer::HistoryFull { entries } => {
+                ("error: history full, ", u64::from(*entries), " entries\n")
+            }
+            Answer::StaleTo { newest } => {
+                let before = "error: stale, the newest is version ";
+                (before, u64::from(*newest), "\n")
+            }
+            plain => return push_word(out, plain.line()),
+        };
+        push_numbered(out, before, number, behind)
+    }
+
     /// Adds it in words, as lines.
-    pub fn push(&self, out: &mut String) -> Result<(), Memory> {
+    fn push(&self, out: &mut String) -> Result<(), Memory> {
         match self {
-            Answer::Made { name, version } => Ok(push_made(out, name, *version)?),
-            Answer::Lines(lines) => Ok(push_lines(out, lines)?),
+            Answer::Made { name, version } => push_made(out, name, *version),
+            Answer::Lines(lines) => push_lines(out, lines),
+            Answer::Numbers(numbers) => push_numbers(out, numbers.as_slice()),
             Answer::Refused(refusal) => push_refusal(out, refusal),
-            Answer::HistoryFull { entries } => Ok(push_history_full(out, *entries)?),
-            Answer::Full { needed, free } => Ok(push_full(out, *needed, *free)?),
-            Answer::Unread(fault) => Ok(push_read_fault(out, *fault)?),
-            Answer::Unopened(cause) => Ok(push_unopened(out, *cause)?),
-            plain => Ok(out.push_str(plain.line())?),
+            Answer::Full { needed, free } => push_full(out, *needed, *free),
+            Answer::Unread(fault) => push_read_fault(out, *fault),
+            Answer::Unopened(cause) => push_unopened(out, *cause),
+            plain => plain.push_plain(out),
         }
+    }
+
+    /// Adds it in words, as lines, and lets it go.
+    pub fn tell(self, out: &mut String) -> Result<(), Memory> {
+        let told = self.push(out);
+        drop(self);
+        told
     }
 }

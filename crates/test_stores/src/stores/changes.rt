@@ -106,7 +106,7 @@ fn with_chunks<R: Threads + Sync>(
 }
 
 /// The change that a text is over some names, with the chunks that come with it.
-pub fn offer_over<R: Threads + Sync>(
+pub(crate) fn offer_over<R: Threads + Sync>(
     rt: &R,
     alloc: Global,
     names: &Names,

@@ -112,7 +112,7 @@ fn committed_offer(
 }
 
 /// The change that a text is, committed under a session's pin, if nothing of it was changed since.
-pub fn changed<R: Threads + Sync>(
+pub(crate) fn changed<R: Threads + Sync>(
     rt: &R,
     alloc: Global,
     store: &mut Store<QuietDisk>,
@@ -138,7 +138,7 @@ pub fn changed<R: Threads + Sync>(
 }
 
 /// A pin of a session that has none, the change that a text is, committed under it, and the unpin.
-pub fn once<R: Threads + Sync>(
+pub(crate) fn once<R: Threads + Sync>(
     rt: &R,
     alloc: Global,
     store: &mut Store<QuietDisk>,

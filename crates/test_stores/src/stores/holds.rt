@@ -6,8 +6,8 @@ use store_ledger::Pinned;
 #[derive(Drop)]
 pub enum Hold {
     Free,
-    /// A pin under which no commit was tried.
+    /// A pin under which no commit was tried, and, of a shared store, nothing was read.
     Pinned(Pinned),
-    /// A pin under which one was.
+    /// A pin under which one was, or something was.
     Tried(Pinned),
 }

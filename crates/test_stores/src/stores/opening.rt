@@ -5,25 +5,23 @@ ghost use Rattle.test_stores.specs.Holds.{HasNoPins};
 use crate::disks::QuietDisk;
 use afl_outside::Disk;
 use array_store::{Limits, Store};
-use cell_values::List;
-use event_core::Entry;
+use event_core::let_go_entries;
 use page_file::OpenCause;
 use std::alloc::Global;
 
-/// Lets entries go. That they can be let go is proved here once, and not again in each crate that calls this.
-pub fn let_go_entries(entries: List<Entry>) {
-    drop(entries);
-}
-
 /// Lets a store go, with its disk.
-pub fn let_go_store<D: Disk + Drop>(store: Store<D>) {
+pub(crate) fn let_go_store<D: Disk + Drop>(store: Store<D>) {
     let (disk, entries) = store.close();
     drop(disk);
     let_go_entries(entries);
 }
 
 /// Opens a store. Where that fails, the disk is let go.
-pub fn opened(alloc: Global, disk: QuietDisk, limits: Limits) -> Result<Store<QuietDisk>, OpenCause>
+pub(crate) fn opened(
+    alloc: Global,
+    disk: QuietDisk,
+    limits: Limits,
+) -> Result<Store<QuietDisk>, OpenCause>
     ensures { IfOk result (λ store. HasNoPins store.ledger) }
 {
     match Store::open(alloc, disk, limits) {

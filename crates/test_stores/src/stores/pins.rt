@@ -23,7 +23,7 @@ fn begun<D: Disk>(store: &mut Store<D>, session: u32) -> (Hold, Answer)
 }
 
 /// A session that has no pin begins to have one.
-pub fn pinned<D: Disk>(store: &mut Store<D>, session: u32, held: Hold) -> (Hold, Answer)
+pub(crate) fn pinned<D: Disk>(store: &mut Store<D>, session: u32, held: Hold) -> (Hold, Answer)
     requires { IsHold store.old.ledger session held }
     ensures own { IsHold store.new.ledger session result.0 }
     ensures others { LeavesOthers session store.old.ledger store.new.ledger }
@@ -45,7 +45,7 @@ fn ended<D: Disk>(store: &mut Store<D>, session: u32, pinned: Pinned) -> Answer
 }
 
 /// The pin of a session goes, if it has one.
-pub fn unpinned<D: Disk>(store: &mut Store<D>, session: u32, held: Hold) -> Answer
+pub(crate) fn unpinned<D: Disk>(store: &mut Store<D>, session: u32, held: Hold) -> Answer
     requires { IsHold store.old.ledger session held }
     ensures own { IsHold store.new.ledger session Hold.Free }
     ensures others { LeavesOthers session store.old.ledger store.new.ledger }

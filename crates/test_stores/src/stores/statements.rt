@@ -6,7 +6,7 @@ ghost use Rattle.plan_changes.specs.Typed.{IsTypedFor};
 ghost use Rattle.test_stores.specs.Statements.{IsStatement};
 
 use afl_parser::{ParseFault, parse};
-use afl_trees::Tree;
+use afl_trees::{Tree, let_go_tree};
 use afl_types::{TypeFault, Typed, check};
 use logical_plan::Names;
 use result_print::Refusal;
@@ -38,7 +38,7 @@ fn checked(alloc: Global, text: &[u8], tree: &Tree, names: &Names) -> Result<Typ
 }
 
 /// The statement that a text is over some names.
-pub fn statement(alloc: Global, text: &[u8], names: &Names) -> Result<Typed, Refused>
+pub(crate) fn statement(alloc: Global, text: &[u8], names: &Names) -> Result<Typed, Refused>
     requires { AreStored names.now }
     ensures { IfOk result (IsStatement names.now) }
 {
@@ -48,7 +48,11 @@ pub fn statement(alloc: Global, text: &[u8], names: &Names) -> Result<Typed, Ref
         }));
     }
     match parse(alloc, text) {
-        Ok(tree) => checked(alloc, text, &tree, names),
+        Ok(tree) => {
+            let typed = checked(alloc, text, &tree, names);
+            let_go_tree(tree);
+            typed
+        }
         Err(ParseFault::At { at, kind }) => Err(Refused::Because(Refusal::Parse { at, kind })),
         Err(ParseFault::Memory) => Err(Refused::Memory),
     }

@@ -7,14 +7,14 @@ use cell_values::{List, Memory};
 use std::alloc::Global;
 
 /// What was appended, and the number of the seat that appended it.
-#[derive(Clone, Copy, Debug, PartialEq, Eq)]
+#[derive(Clone, Copy)]
 pub struct Entry {
     pub by: u32,
     pub content: u64,
 }
 
 /// The entries of a log, the first one first, and the number by which the log is known.
-#[derive(Debug, Drop)]
+#[derive(Drop)]
 pub struct Log {
     pub number: u64,
     pub entries: List<Entry>,

@@ -14,7 +14,7 @@ use file_items::Stop;
 use std::alloc::Global;
 
 /// Why a catalogue or a record could not be decoded.
-#[derive(Clone, Copy, Debug, PartialEq, Eq)]
+#[derive(Clone, Copy)]
 pub enum BadCatalog {
     /// The offset of the first wrong item.
     At { at: u64 },

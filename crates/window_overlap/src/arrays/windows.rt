@@ -16,7 +16,7 @@ use array_geom::{ChunkedArray, margins_of};
 use cell_values::{Memory, Schema};
 use chunk_cells::{assemble, broken_array};
 use chunk_workers::Crew;
-use exec_group::rows_of_cores;
+use group_rows::rows_of_cores;
 use logical_plan::{Aggregate, Reach};
 use std::thread::Threads;
 

@@ -1,6 +1,6 @@
 use Rattle.std.proofs.Common.{[], None}
 use Rattle.command_words.specs.Script.{script}
-use Rattle.session_reports.specs.declared.notices.Notice.TheVariants.{Memory}
+use Rattle.run_opening.specs.declared.reports.notices.Notice.TheVariants.{Memory}
 use Rattle.afl_run.proofs.GeneratedLemmas.{generated_reported, generates_not}
 use Rattle.afl_run.proofs.generated.run_generate.Goals as goal
 

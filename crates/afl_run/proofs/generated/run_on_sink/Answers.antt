@@ -1,7 +1,7 @@
 use Rattle.std.proofs.Common.{◌≤◌, ◌⊎◌, List, length, lit≤, sym, subst}
-use Rattle.afl_in_memory.specs.InMemory.{Reading, sure_source_state}
-use Rattle.afl_in_memory.specs.Inner.Records.{SureBytes, sure_disk_moment}
-use Rattle.session_reports.specs.declared.reports.Streams.{Streams}
+use Rattle.afl_outside.specs.InMemory.{Reading, sure_source_state}
+use Rattle.afl_outside.specs.Inner.Records.{SureBytes, sure_disk_moment}
+use Rattle.run_opening.specs.declared.reports.reports.Streams.{Streams}
 use Rattle.store_state.specs.Standings.{Standing}
 use Rattle.afl_run.specs.Inner.Over.{IsUnrun, RunsOver}
 use Rattle.afl_run.specs.Run.{plain}

@@ -1,6 +1,6 @@
 use Rattle.std.proofs.Common.{[], None, inr, refl}
-use Rattle.afl_in_memory.specs.InMemory.{Reading}
-use Rattle.session_reports.specs.declared.reports.Streams.{Streams}
+use Rattle.afl_outside.specs.InMemory.{Reading}
+use Rattle.run_opening.specs.declared.reports.reports.Streams.{Streams}
 use Rattle.afl_run.proofs.GeneratedLemmas.{generated_reported, generates_nothing, generates_ran}
 use Rattle.afl_run.proofs.generated.run_prepared.Goals as goal
 

@@ -2,8 +2,8 @@ use Rattle.std.proofs.Common.{◌≤◌, ℕ, List, Option, sym, subst}
 use Rattle.afl_outside.specs.Shelf.{ShelfState}
 use Rattle.event_core.specs.declared.entry.Entry.{Entry}
 use Rattle.run_opening.specs.Opened.{IsOpenedFor}
-use Rattle.session_reports.specs.declared.notices.Notice.{Notice}
-use Rattle.session_reports.specs.declared.reports.SessionReport.{SessionReport}
+use Rattle.run_opening.specs.declared.reports.notices.Notice.{Notice}
+use Rattle.run_opening.specs.declared.reports.reports.SessionReport.{SessionReport}
 use Rattle.afl_run.specs.Inner.Streams.{RunsOn}
 use Rattle.afl_run.proofs.StreamsLemmas.{begun, fails_or_memory, on_ran, on_unopened, reported, zip_length}
 use Rattle.afl_run.proofs.scripts.run_on.Goals as goal

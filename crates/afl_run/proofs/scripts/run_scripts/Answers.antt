@@ -2,8 +2,8 @@ use Rattle.std.proofs.Common.{◌≢◌, ℕ, List, [], All, Option, None, sym, 
 use Rattle.afl_outside.specs.Shelf.{ShelfState}
 use Rattle.event_core.specs.declared.entry.Entry.{Entry}
 use Rattle.run_opening.specs.Names.{Word, stream_names}
-use Rattle.session_reports.specs.declared.notices.Notice.{Notice}
-use Rattle.session_reports.specs.declared.reports.SessionReport.{SessionReport}
+use Rattle.run_opening.specs.declared.reports.notices.Notice.{Notice}
+use Rattle.run_opening.specs.declared.reports.reports.SessionReport.{SessionReport}
 use Rattle.afl_run.specs.Run.{RunsScripts}
 use Rattle.afl_run.proofs.StreamsLemmas.{reported, runs_nothing, runs_scripts}
 use Rattle.afl_run.proofs.scripts.run_scripts.Goals as goal

@@ -1,12 +1,12 @@
 use Rattle.std.proofs.Common.{◌≡◌, ◌⊎◌, ℕ, List, Option, None, length, refl, subst}
 use Rattle.afl_outside.specs.Shelf.{ShelfState}
-use Rattle.afl_in_memory.specs.Inner.Records.{SureBytes, sure_disk_moment}
+use Rattle.afl_outside.specs.Inner.Records.{SureBytes, sure_disk_moment}
 use Rattle.event_core.specs.declared.entry.Entry.{Entry}
 use Rattle.run_opening.specs.Names.{Word, stream_names}
 use Rattle.run_opening.specs.Opened.{AreOpenedFor, FailsToOpen, HandsOut, HandsOutSome, LeavesUnasked, StopsAt}
-use Rattle.session_reports.specs.declared.notices.Notice.{Notice}
-use Rattle.session_reports.specs.declared.notices.Notice.TheVariants.{Memory}
-use Rattle.session_reports.specs.declared.reports.SessionReport.{SessionReport}
+use Rattle.run_opening.specs.declared.reports.notices.Notice.{Notice}
+use Rattle.run_opening.specs.declared.reports.notices.Notice.TheVariants.{Memory}
+use Rattle.run_opening.specs.declared.reports.reports.SessionReport.{SessionReport}
 use Rattle.afl_run.specs.Run.{RunsTry}
 use Rattle.afl_run.proofs.StandardLemmas.{tries_nothing, tries_ran}
 use Rattle.afl_run.proofs.StreamsLemmas.{begun, fails_or_memory, reported}

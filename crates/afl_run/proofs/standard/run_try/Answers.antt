@@ -1,10 +1,10 @@
 use Rattle.std.proofs.Common.{ℕ, List, Option, None, refl}
 use Rattle.afl_outside.specs.Shelf.{ShelfState}
-use Rattle.afl_in_memory.specs.Inner.Records.{SureBytes, sure_disk_moment}
+use Rattle.afl_outside.specs.Inner.Records.{SureBytes, sure_disk_moment}
 use Rattle.event_core.specs.declared.entry.Entry.{Entry}
-use Rattle.session_reports.specs.declared.notices.Notice.{Notice}
-use Rattle.session_reports.specs.declared.notices.Notice.TheVariants.{Memory}
-use Rattle.session_reports.specs.declared.reports.SessionReport.{SessionReport}
+use Rattle.run_opening.specs.declared.reports.notices.Notice.{Notice}
+use Rattle.run_opening.specs.declared.reports.notices.Notice.TheVariants.{Memory}
+use Rattle.run_opening.specs.declared.reports.reports.SessionReport.{SessionReport}
 use Rattle.afl_run.specs.Run.{RunsTry}
 use Rattle.afl_run.proofs.StandardLemmas.{tries_not}
 use Rattle.afl_run.proofs.StreamsLemmas.{reported}

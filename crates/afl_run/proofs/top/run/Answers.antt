@@ -4,11 +4,11 @@ use Rattle.command_words.specs.Faults.{IsFault}
 use Rattle.command_words.specs.Forms.{IsForm}
 use Rattle.command_words.proofs.Answering.{one_place}
 use Rattle.command_words.proofs.RangeLaws.{keep_ranges}
-use Rattle.afl_in_memory.specs.InMemory.{sure_source_state}
-use Rattle.afl_in_memory.specs.Inner.Records.{sure_disk_moment}
+use Rattle.afl_outside.specs.InMemory.{sure_source_state}
+use Rattle.afl_outside.specs.Inner.Records.{sure_disk_moment}
 use Rattle.command_words.specs.Script.{script}
 use Rattle.run_opening.specs.Names.{HaveOwnNames, Word, stream_names}
-use Rattle.session_reports.specs.declared.notices.Notice.TheVariants.{Usage}
+use Rattle.run_opening.specs.declared.reports.notices.Notice.TheVariants.{Usage}
 use Rattle.afl_run.specs.Generate.{RunsGenerate}
 use Rattle.afl_run.specs.Run.{MakesDatabase, RunsScripts}
 use Rattle.afl_run.proofs.FormLemmas.{apart_from_device, device_within, generate_or_init, generated_tells, in_style, init_or_generate, init_or_run, init_or_try, init_tells, init_within, names_apart, run_or_generate, run_or_init, run_or_try, runs_as, same_init, same_number, scripts_tell, scripts_within, some_scripts, try_or_generate, try_or_init, try_or_run, try_tells, usage_place, workers_within}

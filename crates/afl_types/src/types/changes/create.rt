@@ -5,8 +5,8 @@ ghost use Rattle.afl_types.specs.Place.{created_place};
 
 use crate::types::changes::place::created_place;
 use cell_values::{List, Name, Schema, Span};
-use check_queries::meant;
 use check_rules::{TypeFault, broken};
+use check_sources::meant;
 use logical_plan::NameEntry;
 use plan_changes::{Change, has_array, has_room};
 use schema_grammar::{SchemaText, TypeKind};

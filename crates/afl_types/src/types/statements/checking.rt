@@ -1,14 +1,14 @@
 //! Checking of statements.
 ghost use Rattle.std.specs.Prelude.{◌≡◌, IfOk};
 ghost use Rattle.check_rules.specs.Checked.{Answers};
-ghost use Rattle.check_queries.specs.Arrays.{AreValid};
+ghost use Rattle.afl_types.specs.Arrays.{AreValid};
 ghost use Rattle.afl_types.specs.Checking.{check_of};
 
+use crate::queries::query_plan;
 use crate::types::changes::create_array;
 use crate::types::statements::statement::{of_change, of_query, said};
 use afl_trees::{Node, Tree};
 use cell_values::{Copies, Memory, Name};
-use check_queries::query_plan;
 use check_rules::TypeFault;
 use logical_plan::{Names, Plan};
 use plan_changes::Change;

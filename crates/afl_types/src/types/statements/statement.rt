@@ -5,15 +5,15 @@ ghost use Rattle.logical_plan.specs.Query.{Query};
 ghost use Rattle.plan_changes.specs.declared.change.Change.{Change};
 ghost use Rattle.check_rules.specs.Checked.{Answers, Checked};
 ghost use Rattle.check_rules.specs.Operators.{operator_named};
-ghost use Rattle.check_queries.specs.Arrays.{AreValid};
-ghost use Rattle.check_queries.specs.Queries.{query_of};
+ghost use Rattle.afl_types.specs.Arrays.{AreValid};
+ghost use Rattle.afl_types.specs.Queries.{query_of};
 ghost use Rattle.afl_types.specs.Statements.{changed, insert_of, listed, numbered, queried, removed, said, shown, store_of};
 
+use crate::queries::query_plan;
 use crate::types::changes::{array_call, cut_call, insert_call, list_call, store_call};
 use crate::types::statements::checking::Typed;
 use afl_trees::Tree;
 use cell_values::{Name, Span};
-use check_queries::query_plan;
 use check_rules::{Operator, TypeFault, broken, operator_named};
 use logical_plan::{Names, Plan};
 use plan_changes::Change;

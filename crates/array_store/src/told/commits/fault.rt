@@ -1,7 +1,7 @@
 //! Why a change isn't committed.
 
 /// Why a change isn't committed. Each place is the number of entries then.
-#[derive(Debug, Clone, Copy)]
+#[derive(Clone, Copy)]
 pub enum CommitFault {
     /// The database has the last sequence number that there is.
     SequenceEnd {

@@ -1,5 +1,5 @@
 use Rattle.std.proofs.Common.{◌∷◌, sym, ◌∙◌, subst}
-use Rattle.page_slots.specs.declared.slots.slots.Slots.{Slots}
+use Rattle.page_chain.specs.declared.slots.slots.slots.Slots.{Slots}
 use Rattle.file_meaning.specs.Opening.{catalogue_pages, stored_pages}
 use Rattle.file_reading.specs.Reading.{slots_of}
 use Rattle.file_reading.specs.Inner.Rows.{AreBeside}

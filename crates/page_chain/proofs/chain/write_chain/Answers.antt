@@ -2,7 +2,7 @@ use Rattle.std.proofs.Common.{◌≡◌, ℕ, ◌+◌, ◌-◌, List, [], ◌∷
 use Rattle.std.proofs.lemmas.Result.{err_from_is_err_and}
 use Rattle.std.specs.Prelude.{Result, OnOk}
 use Rattle.afl_outside.specs.declared.source.Failed.{Failed}
-use Rattle.page_slots.specs.Places.{KeepsPages}
+use Rattle.page_chain.specs.Places.{KeepsPages}
 use Rattle.page_chain.specs.Pages.{page_size, page_at}
 use Rattle.page_chain.specs.Chains.{content_size, chain_piece, HoldsChain}
 use Rattle.page_chain.specs.Inner.Runs.{Sees}

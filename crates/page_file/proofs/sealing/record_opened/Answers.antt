@@ -1,8 +1,8 @@
 use Rattle.std.proofs.Common.{◌⊎◌, [], ◌∷◌, ◌++◌, subst, arith}
-use Rattle.page_slots.specs.Disk.{Torn}
-use Rattle.page_slots.specs.Opens.{OpensAs}
-use Rattle.page_slots.specs.Standing.{gate_place, entry_gate}
-use Rattle.page_slots.specs.declared.slots.slots.Target.{Target}
+use Rattle.page_chain.specs.Disk.{Torn}
+use Rattle.page_chain.specs.Opens.{OpensAs}
+use Rattle.page_chain.specs.Standing.{gate_place, entry_gate}
+use Rattle.page_chain.specs.declared.slots.slots.slots.Target.{Target}
 use Rattle.page_file.proofs.Kept.{chain_stays_put}
 use Rattle.page_file.proofs.Opened.{unseals, record_open, record_ajar}
 use Rattle.page_file.proofs.sealing.record_opened.Goals as goal

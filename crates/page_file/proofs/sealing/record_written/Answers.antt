@@ -1,8 +1,8 @@
 use Rattle.std.proofs.Common.{◌<◌, ◌+◌, arith, List, [], ◌∷◌, length, sym, ◌∙◌, ap, subst}
-use Rattle.page_slots.specs.declared.layout.logs.RecordAt.{RecordAt}
-use Rattle.page_slots.specs.Standing.{entry_gate, IsAlone, IsStillRoot, IsStillEntry}
-use Rattle.page_slots.specs.declared.slots.slots.Slots.{Slots}
-use Rattle.page_slots.specs.declared.slots.slots.Target.{Target}
+use Rattle.page_chain.specs.declared.slots.layout.logs.RecordAt.{RecordAt}
+use Rattle.page_chain.specs.Standing.{entry_gate, IsAlone, IsStillRoot, IsStillEntry}
+use Rattle.page_chain.specs.declared.slots.slots.slots.Slots.{Slots}
+use Rattle.page_chain.specs.declared.slots.slots.slots.Target.{Target}
 use Rattle.page_file.proofs.Kept.{sound_on, seals, record_stays}
 use Rattle.page_file.proofs.Opened.{as_before}
 use Rattle.page_file.proofs.sealing.record_written.Goals as goal

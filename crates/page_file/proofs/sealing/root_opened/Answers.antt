@@ -1,11 +1,11 @@
 use Rattle.std.proofs.Common.{◌⊎◌, [], subst}
-use Rattle.page_slots.specs.Disk.{Torn}
-use Rattle.page_slots.specs.Places.{other, gate_of}
-use Rattle.page_slots.specs.Opens.{OpensAs}
-use Rattle.page_slots.specs.declared.layout.sides.Format.TheVariants.{Two}
-use Rattle.page_slots.specs.Standing.{gate_place, root_in, OpensAsRoot}
-use Rattle.page_slots.specs.declared.slots.slots.RootSlot.TheVariants as roots
-use Rattle.page_slots.specs.declared.slots.slots.Target.{Target}
+use Rattle.page_chain.specs.Disk.{Torn}
+use Rattle.page_chain.specs.Places.{other, gate_of}
+use Rattle.page_chain.specs.Opens.{OpensAs}
+use Rattle.page_chain.specs.declared.slots.layout.sides.Format.TheVariants.{Two}
+use Rattle.page_chain.specs.Standing.{gate_place, root_in, OpensAsRoot}
+use Rattle.page_chain.specs.declared.slots.slots.slots.RootSlot.TheVariants as roots
+use Rattle.page_chain.specs.declared.slots.slots.slots.Target.{Target}
 use Rattle.page_file.proofs.Kept.{chain_stays_front, gate_within, root_ready, root_there}
 use Rattle.page_file.proofs.Opened.{unseals, root_open, root_ajar}
 use Rattle.page_file.proofs.sealing.root_opened.Goals as goal

@@ -1,13 +1,13 @@
 use Rattle.std.proofs.Common.{◌⊎◌, inl, ℕ, List, [], subst}
-use Rattle.page_slots.specs.Places.{other}
-use Rattle.page_slots.specs.Opens.{OpensAs}
-use Rattle.page_slots.specs.declared.layout.sides.Format.TheVariants.{Two}
+use Rattle.page_chain.specs.Places.{other}
+use Rattle.page_chain.specs.Opens.{OpensAs}
+use Rattle.page_chain.specs.declared.slots.layout.sides.Format.TheVariants.{Two}
 use Rattle.page_chain.specs.Pages.{page_size}
 use Rattle.page_chain.specs.Chains.{HoldsChain}
-use Rattle.page_slots.specs.Standing.{root_in, IsSound, OpensAsRoot}
-use Rattle.page_slots.specs.declared.slots.slots.Slots.{Slots}
-use Rattle.page_slots.specs.declared.slots.slots.RootSlot.TheVariants as roots
-use Rattle.page_slots.proofs.PutLemmas.{if_some}
+use Rattle.page_chain.specs.Standing.{root_in, IsSound, OpensAsRoot}
+use Rattle.page_chain.specs.declared.slots.slots.slots.Slots.{Slots}
+use Rattle.page_chain.specs.declared.slots.slots.slots.RootSlot.TheVariants as roots
+use Rattle.page_chain.proofs.PutLemmas.{if_some}
 use Rattle.page_file.proofs.Sealed.{sealed}
 use Rattle.page_file.proofs.sealing.root_sealed.Goals as goal
 

@@ -1,8 +1,8 @@
 use Rattle.std.proofs.Common.{sym, ◌∙◌, ap, subst}
-use Rattle.page_slots.specs.Places.{other, body_of}
-use Rattle.page_slots.specs.Standing.{IsAlone, IsStillRoot, IsStillEntry}
-use Rattle.page_slots.specs.declared.slots.slots.Slots.{Slots}
-use Rattle.page_slots.specs.declared.slots.slots.Target.{Target}
+use Rattle.page_chain.specs.Places.{other, body_of}
+use Rattle.page_chain.specs.Standing.{IsAlone, IsStillRoot, IsStillEntry}
+use Rattle.page_chain.specs.declared.slots.slots.slots.Slots.{Slots}
+use Rattle.page_chain.specs.declared.slots.slots.slots.Target.{Target}
 use Rattle.page_file.proofs.Kept.{sound_on, seals, chain_stays_front, body_within}
 use Rattle.page_file.proofs.Opened.{as_before}
 use Rattle.page_file.proofs.sealing.root_written.Goals as goal

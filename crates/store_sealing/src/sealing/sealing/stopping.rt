@@ -6,7 +6,7 @@ ghost use Rattle.store_sealing.specs.Steps.{doubt_after};
 ghost use Rattle.store_sealing.specs.Inner.Ends.{noted_if};
 
 use crate::sealing::sealing::settling::note_if;
-use commit_writes::Stopped;
+use page_file::Stopped;
 use plan_changes::{Change, let_go_change};
 use prepared_commits::{Prepared, let_go_catalog, let_go_doubt, let_go_pages, let_go_version};
 use store_ledger::Ledger;

@@ -1,13 +1,12 @@
 //! The writes of a commit.
 ghost use Rattle.std.specs.Prelude.{◌≡◌, ◌<◌, length, map, vec_capacity, OnOk, IfErr};
 ghost use Rattle.afl_outside.specs.Disk.{DiskGoesOn, FailsWithCause};
-ghost use Rattle.commit_writes.specs.Moments.{PassesBy, StaysKnown};
+ghost use Rattle.page_file.specs.Moments.{PassesBy, StaysKnown};
 ghost use Rattle.store_sealing.specs.Moves.{IsDone, NewIn, StopsAt, own_pages, slot_page};
 ghost use Rattle.store_sealing.specs.Inner.Writing.{CameTo, MayBeWritten, acked_after};
 
 use afl_outside::{Disk, has_risen};
-use commit_writes::{Placed, Stopped, commit_base, commit_record};
-use page_file::PageFile;
+use page_file::{PageFile, Placed, Stopped, commit_base, commit_record};
 use prepared_commits::{NewBase, Prepared};
 use std::snapshot::Snapshot;
 

@@ -1,5 +1,5 @@
 use Rattle.store_versions.specs.Rows.{ended, is_row_below}
-use Rattle.lean_core.proofs.Maps.{map_step}
+use Rattle.plan_changes.proofs.Maps.{map_step}
 use Rattle.store_versions.proofs.table.end_below.Goals as goal
 
 pub loop-row-preserved : goal.loop-row-preserved

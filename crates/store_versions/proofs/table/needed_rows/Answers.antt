@@ -1,8 +1,8 @@
 use Rattle.std.proofs.Common.{rules, ◌∙◌, ◌||◌, Bool, ap, map, sym}
 use Rattle.std.specs.List.{filter, list_any}
 use Rattle.std.proofs.lemmas.Fn.{filter_same}
-use Rattle.lean_core.proofs.Tests.{any_map, filter_agrees}
-use Rattle.lean_core.specs.declared.lean.pin.LeanPin.{LeanPin}
+use Rattle.event_core.proofs.Tests.{any_map, filter_agrees}
+use Rattle.store_versions.specs.declared.lean.lean.pin.LeanPin.{LeanPin}
 use Rattle.store_versions.specs.declared.row.VersionRow.{VersionRow}
 use Rattle.store_versions.specs.Rows.{is_needed, is_seen, stands}
 use Rattle.store_versions.proofs.table.needed_rows.Goals as goal

@@ -1,4 +1,4 @@
-use Rattle.check_queries.specs.Arrays.{AreValid}
+use Rattle.afl_types.specs.Arrays.{AreValid}
 use Rattle.test_language.proofs.stored.push_others.Given as goal
 
 abbrev pub invariant-loop-number : goal.invariant-loop-number

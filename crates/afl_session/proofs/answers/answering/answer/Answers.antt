@@ -1,5 +1,5 @@
 use Rattle.std.proofs.Common.{◌∙◌, ap}
-use Rattle.session_sources.specs.Seats.{last_place, read_count, seen, session_of}
+use Rattle.snapshot_manager.specs.Seats.{last_place, read_count, seen, session_of}
 use Rattle.afl_session.proofs.Kept.{still_answered, still_none, still_read, still_seat}
 use Rattle.afl_session.proofs.answers.answering.answer.Goals as goal
 

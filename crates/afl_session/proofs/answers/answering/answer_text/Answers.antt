@@ -1,6 +1,6 @@
 use Rattle.std.proofs.Common.{◌∙◌, arith, refl, subst}
 use Rattle.afl_types.proofs.ParsedLeaves.{parsed_leaves}
-use Rattle.session_sources.specs.Seats.{last_place, read_count, seen, session_of, start}
+use Rattle.snapshot_manager.specs.Seats.{last_place, read_count, seen, session_of, start}
 use Rattle.afl_session.specs.Reads.{ReadsOnce}
 use Rattle.afl_session.proofs.Wholes.{stop_is_whole, stop_reads_none, tree_is_answered, want_is_whole, want_reads_none}
 use Rattle.afl_session.proofs.answers.answering.answer_text.Goals as goal

@@ -3,8 +3,8 @@ use Rattle.event_core.specs.declared.entry.Entry.TheVariants.{Unpin}
 use Rattle.event_core.specs.History.{names_at}
 use Rattle.store_ledger.specs.Ledger.{history, is_noted}
 use Rattle.store_state.specs.declared.state.event.Event.TheVariants.{Entered}
-use Rattle.session_sources.specs.Turns.{pin_event, Adds}
-use Rattle.session_sources.specs.Seats.{ledger_found, ledger_seen, read_count, seen, session_of, start}
+use Rattle.snapshot_manager.specs.Turns.{pin_event, Adds}
+use Rattle.snapshot_manager.specs.Seats.{ledger_found, ledger_seen, read_count, seen, session_of, start}
 use Rattle.afl_session.proofs.Trees.{full_is_answered, full_reads, is_read_once, pin_parts, pinned_is_answered, want_is_answered, want_reads}
 use Rattle.afl_session.proofs.answers.answering.answer_tree.Goals as goal
 

@@ -1,8 +1,8 @@
 use Rattle.std.proofs.Common.{◌∙◌, ◌+◌, [], ap, subst, sym}
-use Rattle.session_sources.specs.Turns.{Adds}
+use Rattle.snapshot_manager.specs.Turns.{Adds}
 use Rattle.afl_session.specs.Refusals.{IsUncommittedReply}
 use Rattle.afl_session.proofs.Under.{pin_within}
-use Rattle.session_sources.specs.Seats.{seen, session_of, start}
+use Rattle.snapshot_manager.specs.Seats.{seen, session_of, start}
 use Rattle.afl_session.proofs.Commits.{change_under, had_room, held_behind, made_is_answered, refused_is_answered, still_untried}
 use Rattle.afl_session.proofs.Readings.{named_behind}
 use Rattle.afl_session.proofs.answers.committing.commit.Goals as goal

@@ -1,5 +1,5 @@
 use Rattle.std.proofs.Common.{◌∙◌, Ok, ap, subst, sym}
-use Rattle.session_sources.specs.Seats.{read_count, seen, start}
+use Rattle.snapshot_manager.specs.Seats.{read_count, seen, start}
 use Rattle.afl_session.specs.Inner.Steps.{WasRead}
 use Rattle.afl_session.specs.Reads.{CountsAt}
 use Rattle.afl_session.proofs.Readings.{change_is_read, database_now, no_act, replied_is_answered, unread_is_answered}

@@ -1,6 +1,6 @@
 use Rattle.std.proofs.Common.{arith}
 use Rattle.afl_session.proofs.Under.{pin_within}
-use Rattle.session_sources.specs.Seats.{seen, start}
+use Rattle.snapshot_manager.specs.Seats.{seen, start}
 use Rattle.afl_session.proofs.answers.pinned.behind.Goals as goal
 
 pub overflow_add-result : goal.overflow_add-result

@@ -1,6 +1,6 @@
 use Rattle.std.proofs.Common.{◌≤◌, ℕ, refl, inl, inr, length, arith}
 use Rattle.std.specs.Fmt.{digits}
-use Rattle.session_sources.specs.Told.{entries_in}
+use Rattle.snapshot_manager.specs.Told.{entries_in}
 use Rattle.afl_session.proofs.InHistories.{marks_stay, sessions_stay}
 use Rattle.afl_session.proofs.scripts.laws.marks_stay.Goals as goal
 

@@ -1,10 +1,10 @@
 use Rattle.std.proofs.Common.{[], refl, ◌∙◌, sym, ap, subst, arith, take, ℕ, Ok}
 use Rattle.afl_outside.specs.Counts.{Rose}
 use Rattle.afl_outside.proofs.Streams.{Gives-more, Gives-nothing}
-use Rattle.session_sources.specs.Seats.{last_place, seen, session_of, start}
+use Rattle.snapshot_manager.specs.Seats.{last_place, seen, session_of, start}
 use Rattle.afl_session.specs.Marked.{IsMarked}
 use Rattle.afl_session.specs.Session.{Serves}
-use Rattle.session_reports.specs.declared.reports.SessionEnd.{SessionEnd}
+use Rattle.run_opening.specs.declared.reports.reports.SessionEnd.{SessionEnd}
 use Rattle.afl_session.proofs.ScriptsEnding.{nothing_yet, serves_early, serves_stopped, serves_whole}
 use Rattle.afl_session.proofs.scripts.session.converse.Goals as goal
 

@@ -1,6 +1,6 @@
 use Rattle.std.proofs.Common.{◌≡◌, ◌-◌, ◌^◌, ℕ, List}
 use Rattle.afl_outside.specs.Source.{Gives}
-use Rattle.session_sources.specs.Seats.{last_place, seen, session_of, start, HoldsNone, IsIdle, IsSeatOf}
+use Rattle.snapshot_manager.specs.Seats.{last_place, seen, session_of, start, HoldsNone, IsIdle, IsSeatOf}
 use Rattle.afl_session.specs.Inner.Serving.{IsServing, reached}
 use Rattle.afl_session.specs.Marked.{IsMarked}
 use Rattle.afl_session.proofs.scripts.session.converse.Given as goal

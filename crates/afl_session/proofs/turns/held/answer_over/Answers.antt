@@ -1,6 +1,6 @@
 use Rattle.std.proofs.Common.{◌∙◌, ap, length, subst, sym, Ok}
 use Rattle.statement_replies.specs.declared.answers.outcome.Outcome.TheVariants.{Replied}
-use Rattle.session_sources.specs.Lent.{turn_with}
+use Rattle.snapshot_manager.specs.Lent.{turn_with}
 use Rattle.afl_session.specs.Inner.Turns.{IsRead, goes_told, goes_tried, goes_unread}
 use Rattle.afl_session.proofs.Going.{asked_read, keeps_both, keeps_read, pinned_read, read_by, start_holds, start_whole, tried_read}
 use Rattle.afl_session.proofs.turns.held.answer_over.Goals as goal

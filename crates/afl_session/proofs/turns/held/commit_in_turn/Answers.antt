@@ -1,8 +1,8 @@
 use Rattle.std.proofs.Common.{◌≡◌, ◌∙◌, ap, length, subst}
 use Rattle.store_state.specs.At.{standing}
 use Rattle.store_state.specs.Events.{events}
-use Rattle.session_sources.specs.Starts.{start_of}
-use Rattle.session_sources.proofs.TriedTurns.{commit_extends, commit_start}
+use Rattle.snapshot_manager.specs.Starts.{start_of}
+use Rattle.snapshot_manager.proofs.TriedTurns.{commit_extends, commit_start}
 use Rattle.afl_session.specs.Inner.Turns.{store_in, IsTried, TellsCommit}
 use Rattle.afl_session.proofs.turns.held.commit_in_turn.Goals as goal
 

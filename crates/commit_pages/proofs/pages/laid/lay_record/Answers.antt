@@ -2,7 +2,7 @@ use Rattle.std.proofs.Common.{arith, IfSome, ℕ, ◌≡◌, true, sym, subst}
 use Rattle.std.specs.List.{AllByRecursion}
 use Rattle.chunk_map.specs.Spelling.{IsDirectory}
 use Rattle.file_meaning.specs.Changed.{has_its_directory, IsItsBlob}
-use Rattle.commit_writes.specs.Commits.{commit_pages, IsBlobSized, IsChainSized}
+use Rattle.page_file.specs.Commits.{commit_pages, IsBlobSized, IsChainSized}
 use Rattle.commit_pages.specs.declared.pages.laid.Laid.{Laid}
 use Rattle.commit_pages.specs.declared.pages.version.NewVersion.{NewVersion}
 use Rattle.commit_pages.specs.Commits.{with_record}

@@ -1,5 +1,5 @@
 use Rattle.std.proofs.Common.{◌≡◌, length, take}
-use Rattle.commit_writes.specs.Commits.{pages_of}
+use Rattle.page_file.specs.Commits.{pages_of}
 use Rattle.commit_pages.proofs.pages.needed.count_pages.Given as goal
 
 abbrev pub invariant-loop-blob : goal.invariant-loop-blob

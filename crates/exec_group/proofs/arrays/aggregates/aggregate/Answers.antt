@@ -1,6 +1,6 @@
 use Rattle.logical_plan.specs.Groups.{aggregate_rows}
 use Rattle.logical_plan.specs.PlanSchema.{aggregate_schema}
-use Rattle.exec_group.proofs.WholeLaws.{means_broken, stands_for}
+use Rattle.group_rows.proofs.WholeLaws.{means_broken, stands_for}
 use Rattle.exec_group.proofs.arrays.aggregates.aggregate.Goals as goal
 
 pub returns-in-Some-clause-array : goal.returns-in-Some-clause-array

@@ -2,10 +2,10 @@ use Rattle.std.proofs.Common.{ap, arith}
 use Rattle.cell_values.specs.declared.schema.Schema.{Schema}
 use Rattle.logical_plan.specs.Groups.{aggregate_rows}
 use Rattle.logical_plan.specs.PlanSchema.{aggregate_schema}
-use Rattle.exec_group.specs.Inner.Keys.{aggregate_sets}
+use Rattle.group_rows.specs.Inner.Keys.{aggregate_sets}
 use Rattle.exec_group.proofs.GroupLaws.{aggregate_told}
-use Rattle.exec_group.proofs.InsideLaws.{aggregate_fits}
-use Rattle.exec_group.proofs.WholeLaws.{of_cores, few_names, can_tell, told_whole, if_ok}
+use Rattle.group_rows.proofs.InsideLaws.{aggregate_fits}
+use Rattle.group_rows.proofs.WholeLaws.{of_cores, few_names, can_tell, told_whole, if_ok}
 use Rattle.exec_group.proofs.arrays.aggregates.of_whole.Goals as goal
 
 pub aggregate_groups-requires-clause-rising : goal.aggregate_groups-requires-clause-rising

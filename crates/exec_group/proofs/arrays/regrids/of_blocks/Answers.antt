@@ -8,11 +8,11 @@ use Rattle.cell_values.specs.declared.schema.Schema.{Schema}
 use Rattle.array_rows.specs.Boxes.{is_inside, bounds_of}
 use Rattle.logical_plan.specs.Groups.{regrid_rows}
 use Rattle.logical_plan.specs.PlanSchema.{regrid_schema}
-use Rattle.exec_group.specs.Grouped.{AreGroupsOf}
-use Rattle.exec_group.specs.Inner.Keys.{regrid_sets}
+use Rattle.group_rows.specs.Grouped.{AreGroupsOf}
+use Rattle.group_rows.specs.Inner.Keys.{regrid_sets}
 use Rattle.exec_group.proofs.BlockLaws.{regrid_fits}
 use Rattle.exec_group.proofs.GroupLaws.{regrid_told}
-use Rattle.exec_group.proofs.WholeLaws.{of_cores, can_tell, told_whole, if_ok}
+use Rattle.group_rows.proofs.WholeLaws.{of_cores, can_tell, told_whole, if_ok}
 use Rattle.exec_group.proofs.arrays.regrids.of_blocks.Goals as goal
 
 pub regrid_groups-requires-clause-valid : goal.regrid_groups-requires-clause-valid

@@ -1,7 +1,7 @@
 use Rattle.array_rows.specs.Boxes.{bounds_of}
 use Rattle.logical_plan.specs.Groups.{regrid_rows}
 use Rattle.logical_plan.specs.PlanSchema.{regrid_schema}
-use Rattle.exec_group.proofs.WholeLaws.{means_broken, stands_for}
+use Rattle.group_rows.proofs.WholeLaws.{means_broken, stands_for}
 use Rattle.exec_group.proofs.arrays.regrids.regrid.Goals as goal
 
 pub returns-in-Some-clause-array : goal.returns-in-Some-clause-array

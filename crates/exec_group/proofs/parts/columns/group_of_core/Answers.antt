@@ -6,10 +6,10 @@ use Rattle.array_rows.specs.Boxes.{is_inside}
 use Rattle.array_rows.specs.Rows.{Coordinate}
 use Rattle.array_geom.specs.Geometry.{coordinate_in, core, frame_low, frame_lengths, volume}
 use Rattle.array_geom.specs.Link.{chunk_rows}
-use Rattle.exec_group.specs.Grouped.{AreGroupsOf}
-use Rattle.exec_group.specs.Inner.Columns.{are_inside}
-use Rattle.exec_group.specs.Inner.Keys.{core_of}
-use Rattle.exec_group.specs.Sets.{one_set}
+use Rattle.group_rows.specs.Grouped.{AreGroupsOf}
+use Rattle.group_rows.specs.Inner.Columns.{are_inside}
+use Rattle.group_rows.specs.Inner.Keys.{core_of}
+use Rattle.group_rows.specs.Sets.{one_set}
 use Rattle.exec_group.proofs.CoreColumnLaws.{cells_again, rows_inside}
 use Rattle.exec_group.proofs.parts.columns.group_of_core.Goals as goal
 

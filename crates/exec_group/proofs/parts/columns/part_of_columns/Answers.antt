@@ -1,4 +1,4 @@
-use Rattle.exec_group.specs.Inner.Keys.{core_of}
+use Rattle.group_rows.specs.Inner.Keys.{core_of}
 use Rattle.exec_group.proofs.CoreColumnLaws.{one_in_core}
 use Rattle.exec_group.proofs.parts.columns.part_of_columns.Goals as goal
 

@@ -4,8 +4,8 @@ use Rattle.std.specs.Prelude.{IsTrue}
 use Rattle.cell_values.specs.declared.datum.Row.{Row}
 use Rattle.array_rows.specs.Boxes.{is_inside, bounds_of}
 use Rattle.array_rows.specs.Rows.{IsRising}
-use Rattle.exec_group.proofs.PartsPartLaws.{alone_cells, alone_rows, core_rises, core_inside}
-use Rattle.exec_group.proofs.ToldLaws.{if_ok}
+use Rattle.group_rows.proofs.PartsPartLaws.{alone_cells, alone_rows, core_rises, core_inside}
+use Rattle.group_rows.proofs.ToldLaws.{if_ok}
 use Rattle.exec_group.proofs.parts.cores.rows_of_core.Goals as goal
 
 pub rows_of_cores-requires : goal.rows_of_cores-requires

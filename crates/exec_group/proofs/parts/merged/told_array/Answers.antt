@@ -1,7 +1,7 @@
 use Rattle.std.proofs.Common.{sym, subst}
 use Rattle.array_rows.specs.Arrays.{AreRowsOf}
-use Rattle.exec_group.specs.Told.{AreRowsOfSets}
-use Rattle.exec_group.proofs.ToldLaws.{if_ok, told_rows, rows_of_target}
+use Rattle.group_rows.specs.Told.{AreRowsOfSets}
+use Rattle.group_rows.proofs.ToldLaws.{if_ok, told_rows, rows_of_target}
 use Rattle.exec_group.proofs.parts.merged.told_array.Goals as goal
 
 pub assemble-requires-clause-rows : goal.assemble-requires-clause-rows

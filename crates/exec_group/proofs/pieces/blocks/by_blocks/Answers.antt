@@ -4,10 +4,10 @@ use Rattle.array_parts.specs.Cores.{cores_of}
 use Rattle.array_rows.specs.Boxes.{bounds_of}
 use Rattle.logical_plan.specs.Groups.{regrid_rows}
 use Rattle.logical_plan.specs.PlanSchema.{regrid_schema}
-use Rattle.exec_group.specs.Inner.Keys.{regrid_sets}
+use Rattle.group_rows.specs.Inner.Keys.{regrid_sets}
 use Rattle.exec_group.proofs.BlockLaws.{regrid_fits}
 use Rattle.exec_group.proofs.GroupLaws.{regrid_told}
-use Rattle.exec_group.proofs.WholeLaws.{of_cores, can_tell, told_whole, if_ok}
+use Rattle.group_rows.proofs.WholeLaws.{of_cores, can_tell, told_whole, if_ok}
 use Rattle.exec_group.proofs.pieces.blocks.by_blocks.Goals as goal
 
 pub told_array-requires-clause-sets : goal.told_array-requires-clause-sets

@@ -1,7 +1,7 @@
 use Rattle.std.proofs.Common.{◌≡◌, List, ℕ, length, Option, None, Some, IfSome}
 use Rattle.std.specs.Prelude.{◌≢◌}
-use Rattle.page_slots.specs.Puts.{OnlySyncs}
-use Rattle.page_slots.proofs.PutLemmas.{if_some}
+use Rattle.page_chain.specs.Puts.{OnlySyncs}
+use Rattle.page_chain.proofs.PutLemmas.{if_some}
 use Rattle.page_file.proofs.making.making.init.Goals as goal
 
 always : (o : Option (List ℕ)) (P : Type 0) → P → IfSome o (λ seen. length seen ≢ 0 → P)

@@ -1,6 +1,6 @@
 use Rattle.std.proofs.Common.{ℕ, List, [], ◌∷◌, subst}
-use Rattle.page_slots.specs.Disk.{written}
-use Rattle.page_slots.proofs.PutLemmas.{goes_twice}
+use Rattle.page_chain.specs.Disk.{written}
+use Rattle.page_chain.proofs.PutLemmas.{goes_twice}
 use Rattle.page_file.specs.Inner.Laid.{Lays, laid, head_bytes}
 use Rattle.page_file.proofs.Steps.{lays_on}
 use Rattle.page_file.proofs.making.making.lay.Goals as goal

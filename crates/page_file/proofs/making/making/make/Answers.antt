@@ -1,6 +1,6 @@
 use Rattle.std.proofs.Common.{ℕ, List, [], ◌∷◌, subst}
-use Rattle.page_slots.specs.Disk.{written}
-use Rattle.page_slots.proofs.PutLemmas.{goes_twice}
+use Rattle.page_chain.specs.Disk.{written}
+use Rattle.page_chain.proofs.PutLemmas.{goes_twice}
 use Rattle.page_file.specs.Inner.Laid.{Lays, laid, made}
 use Rattle.page_file.proofs.Steps.{lays_on, lays_same, lays_only}
 use Rattle.page_file.proofs.making.making.make.Goals as goal

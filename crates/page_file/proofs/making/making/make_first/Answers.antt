@@ -1,6 +1,6 @@
 use Rattle.std.proofs.Common.{◌≡◌, ℕ, List, length, Some}
-use Rattle.page_slots.specs.Disk.{Only}
-use Rattle.page_slots.proofs.PutLemmas.{if_some}
+use Rattle.page_chain.specs.Disk.{Only}
+use Rattle.page_chain.proofs.PutLemmas.{if_some}
 use Rattle.page_file.specs.Inner.Laid.{made}
 use Rattle.page_file.specs.Start.{IsEmptyDatabase}
 use Rattle.page_file.proofs.First.{database_made}

@@ -1,6 +1,6 @@
 use Rattle.std.proofs.Common.{◌≡◌, slice_index, sym, ◌∙◌, ap}
-use Rattle.page_slots.specs.Places.{gate_of, other}
-use Rattle.page_slots.specs.declared.layout.sides.Side.{Side}
+use Rattle.page_chain.specs.Places.{gate_of, other}
+use Rattle.page_chain.specs.declared.slots.layout.sides.Side.{Side}
 use Rattle.page_file.proofs.Fronts.{older_one, older_two, other_shut}
 use Rattle.page_file.proofs.opening.opening.other_of.Goals as goal
 

@@ -1,4 +1,4 @@
-use Rattle.page_slots.specs.Places.{KeepsPages}
+use Rattle.page_chain.specs.Places.{KeepsPages}
 use Rattle.page_file.proofs.Stays.{pages_sound, blob_sound, writes_opens}
 use Rattle.page_file.proofs.writing.writes.write_blob.Goals as goal
 

@@ -1,5 +1,5 @@
 use Rattle.std.specs.Prelude.{OnOk}
-use Rattle.page_slots.specs.Places.{KeepsPages}
+use Rattle.page_chain.specs.Places.{KeepsPages}
 use Rattle.page_chain.specs.Pages.{page_size}
 use Rattle.page_chain.specs.Chains.{HoldsChain}
 use Rattle.page_file.proofs.Stays.{pages_sound, writes_opens}

@@ -5,7 +5,7 @@ use Rattle.array_rows.specs.Boxes.{bounds_of}
 use Rattle.array_rows.specs.Rows.{IsRising}
 use Rattle.chunk_cells.proofs.MergeLaws.{IsRising-core_rows}
 use Rattle.logical_plan.specs.Redimension.{origin_of}
-use Rattle.exec_group.specs.Counts.{cells_in}
+use Rattle.group_rows.specs.Counts.{cells_in}
 use Rattle.redimension_exec.specs.Inner.Grouping.{AreGroupsLanded}
 use Rattle.redimension_exec.proofs.arrays.bands.groups_in_band.Goals as goal
 

@@ -1,5 +1,5 @@
 use Rattle.std.proofs.Common.{refl}
-use Rattle.session_reports.specs.declared.notices.Notice.TheVariants.{Memory}
+use Rattle.run_opening.specs.declared.reports.notices.Notice.TheVariants.{Memory}
 use Rattle.store_state.specs.At.{standing}
 use Rattle.run_opening.proofs.Reaped.{came, lacked}
 use Rattle.run_opening.proofs.stores.closing.told_after.Goals as goal

@@ -1,6 +1,6 @@
 use Rattle.std.proofs.Common.{◌∙◌, ap}
-use Rattle.lean_core.specs.Core.{Core}
-use Rattle.lean_core.specs.Pages.{free_at}
+use Rattle.store_versions.specs.Core.{Core}
+use Rattle.store_versions.specs.Pages.{free_at}
 use Rattle.store_ledger.specs.Ledger.{LedgerState, history}
 use Rattle.store_ledger.proofs.Told.{is_ledger}
 use Rattle.store_ledger.proofs.ledger.Ledger.free.Goals as goal

@@ -1,8 +1,8 @@
 use Rattle.std.proofs.Common.{◌≡◌, ◌∙◌, List, ap, sym}
 use Rattle.std.specs.List.{list_any}
-use Rattle.lean_core.proofs.Tests.{any_map}
-use Rattle.lean_core.specs.declared.lean.pin.LeanPin.{LeanPin}
-use Rattle.lean_core.specs.States.{place_of, core_place}
+use Rattle.store_versions.proofs.Tests.{any_map}
+use Rattle.store_versions.specs.declared.lean.lean.pin.LeanPin.{LeanPin}
+use Rattle.store_versions.specs.States.{place_of, core_place}
 use Rattle.store_ledger.specs.declared.note.Note.{Note}
 use Rattle.store_ledger.specs.Ledger.{LedgerState}
 use Rattle.store_ledger.proofs.Told.{faulted_told, faulty_at}

@@ -1,6 +1,6 @@
 use Rattle.std.proofs.Common.{◌∙◌, ap}
-use Rattle.lean_core.specs.Core.{Core}
-use Rattle.lean_core.specs.History.{names_at}
+use Rattle.store_versions.specs.Core.{Core}
+use Rattle.store_versions.specs.History.{names_at}
 use Rattle.store_ledger.specs.Ledger.{LedgerState, history}
 use Rattle.store_ledger.proofs.ledger.Ledger.names.Goals as goal
 

@@ -1,6 +1,6 @@
 use Rattle.std.proofs.Common.{◌∙◌, nat_le, List, length, IsTrue, refl, sym, subst, arith}
 use Rattle.std.specs.List.{list_all}
-use Rattle.lean_core.specs.Entry.{Entry}
+use Rattle.store_versions.specs.Entry.{Entry}
 use Rattle.store_ledger.specs.Ledger.{LedgerState}
 use Rattle.store_ledger.proofs.Opened.{pin_keeps}
 use Rattle.store_ledger.proofs.Pins.{pin_untried}

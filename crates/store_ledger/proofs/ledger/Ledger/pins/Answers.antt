@@ -1,7 +1,7 @@
 use Rattle.std.proofs.Common.{◌∙◌, ap, map, reverse}
-use Rattle.lean_core.specs.Core.{Core}
-use Rattle.lean_core.specs.History.{open_pins}
-use Rattle.lean_core.specs.States.{core_place}
+use Rattle.store_versions.specs.Core.{Core}
+use Rattle.store_versions.specs.History.{open_pins}
+use Rattle.store_versions.specs.States.{core_place}
 use Rattle.store_ledger.specs.Ledger.{LedgerState, history, open_place}
 use Rattle.store_ledger.proofs.Told.{is_ledger}
 use Rattle.store_ledger.proofs.Versions.{places_told}

@@ -1,8 +1,8 @@
 use Rattle.std.proofs.Common.{◌≡◌, ◌∙◌, [], ◌∷◌, ◌++◌, ap, arith}
-use Rattle.lean_core.specs.Change.{Change}
-use Rattle.lean_core.specs.Used.{Used}
-use Rattle.lean_core.specs.Entry.TheVariants.{Commit}
-use Rattle.lean_core.specs.Ready.{ReadyFor}
+use Rattle.store_versions.specs.Change.{Change}
+use Rattle.store_versions.specs.Used.{Used}
+use Rattle.store_versions.specs.Entry.TheVariants.{Commit}
+use Rattle.store_versions.specs.Ready.{ReadyFor}
 use Rattle.store_ledger.specs.Ledger.{LedgerState}
 use Rattle.store_ledger.proofs.Opened.{put_fits, put_keeps}
 use Rattle.store_ledger.proofs.Versions.{put_room, version_fits}

@@ -1,7 +1,7 @@
 use Rattle.std.proofs.Common.{◌∙◌, ◌&&◌, Bool, ap, sym}
 use Rattle.std.specs.List.{list_any}
 use Rattle.version_reaper.specs.PageSets.{pages_below}
-use Rattle.lean_core.specs.Pages.{is_awaiting}
+use Rattle.store_versions.specs.Pages.{is_awaiting}
 use Rattle.store_ledger.specs.Ledger.{LedgerState, history}
 use Rattle.store_ledger.proofs.Opened.{awaiting_told}
 use Rattle.store_ledger.proofs.ledger.Ledger.reap_comes.Goals as goal

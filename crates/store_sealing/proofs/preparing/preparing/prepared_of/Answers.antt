@@ -1,6 +1,6 @@
 use Rattle.std.proofs.Common.{◌≡◌, ℕ, List, length, map, IfOk, sym, subst}
 use Rattle.chunk_map.specs.declared.directory.Directory.{Directory}
-use Rattle.page_slots.specs.declared.slots.slots.Target.{Target}
+use Rattle.page_chain.specs.declared.slots.slots.slots.Target.{Target}
 use Rattle.store_versions.specs.Rows.{directory_in}
 use Rattle.prepared_commits.specs.At.{IsAt, keeping, standing}
 use Rattle.prepared_commits.specs.Needs.{needs_by, newest_now}

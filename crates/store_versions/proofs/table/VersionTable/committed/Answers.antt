@@ -1,10 +1,10 @@
 use Rattle.std.proofs.Common.{◌≡◌, ℕ, true, false, List, length, Option, refl, ap}
-use Rattle.lean_core.specs.Names.{Names}
-use Rattle.lean_core.specs.Change.{Change}
-use Rattle.lean_core.specs.Change.TheVariants.{Create, Store, Insert, Remove, RemoveVersions}
-use Rattle.lean_core.specs.Changes.{next_of}
-use Rattle.lean_core.specs.Apart.{makes_version}
-use Rattle.lean_core.proofs.Tests.{both_not}
+use Rattle.plan_changes.specs.Names.{Names}
+use Rattle.plan_changes.specs.declared.change.Change.{Change}
+use Rattle.plan_changes.specs.declared.change.Change.TheVariants.{Create, Store, Insert, Remove, RemoveVersions}
+use Rattle.plan_changes.specs.Changes.{next_of}
+use Rattle.event_core.specs.Apart.{makes_version}
+use Rattle.event_core.proofs.Tests.{both_not}
 use Rattle.store_versions.specs.declared.ready.ReadyVersion.{ReadyVersion}
 use Rattle.store_versions.specs.Rows.{HasNext, IsReadyFor}
 use Rattle.store_versions.proofs.table.VersionTable.committed.Goals as goal

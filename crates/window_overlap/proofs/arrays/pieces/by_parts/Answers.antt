@@ -4,7 +4,7 @@ use Rattle.array_geom.proofs.MarginLaws.{overlap_each, overlap_places}
 use Rattle.array_parts.specs.Cores.{cores_of}
 use Rattle.logical_plan.specs.Groups.{window_rows}
 use Rattle.logical_plan.specs.PlanSchema.{window_schema}
-use Rattle.exec_group.proofs.WholeLaws.{means_whole, of_cores, stands_for}
+use Rattle.group_rows.proofs.WholeLaws.{means_whole, of_cores, stands_for}
 use Rattle.window_overlap.proofs.ArraysWindowLaws.{windows_are_rows}
 use Rattle.window_overlap.proofs.PieceLaws.{whole_parts}
 use Rattle.window_overlap.proofs.arrays.pieces.by_parts.Goals as goal

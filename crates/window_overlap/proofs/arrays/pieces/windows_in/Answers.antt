@@ -2,7 +2,7 @@ use Rattle.std.proofs.Common.{List, refl, sym, ap, ◌∙◌, subst, length}
 use Rattle.array_geom.specs.declared.chunk.Chunk.{Chunk}
 use Rattle.cell_values.specs.declared.schema.Dimension.{Dimension}
 use Rattle.array_parts.specs.Cores.{cores_of}
-use Rattle.exec_group.proofs.WholeLaws.{of_cores}
+use Rattle.group_rows.proofs.WholeLaws.{of_cores}
 use Rattle.chunk_cells.specs.Whole.{CoresRise}
 use Rattle.chunk_cells.proofs.MergeLaws.{if_ok}
 use Rattle.window_overlap.specs.Inner.Reached.{reached}

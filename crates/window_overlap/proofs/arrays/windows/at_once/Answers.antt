@@ -1,6 +1,6 @@
 use Rattle.logical_plan.specs.Groups.{window_rows}
 use Rattle.logical_plan.specs.PlanSchema.{window_schema}
-use Rattle.exec_group.proofs.WholeLaws.{means_broken, stands_for}
+use Rattle.group_rows.proofs.WholeLaws.{means_broken, stands_for}
 use Rattle.window_overlap.proofs.arrays.windows.at_once.Goals as goal
 
 pub returns-in-Some-clause-array : goal.returns-in-Some-clause-array

@@ -1,7 +1,7 @@
 use Rattle.std.proofs.Common.{ap, ◌∙◌}
 use Rattle.logical_plan.specs.Groups.{window_rows}
 use Rattle.logical_plan.specs.PlanSchema.{window_schema}
-use Rattle.exec_group.proofs.WholeLaws.{of_cores, means_whole, stands_for}
+use Rattle.group_rows.proofs.WholeLaws.{of_cores, means_whole, stands_for}
 use Rattle.window_overlap.proofs.ArraysWindowLaws.{can_aggregate, low_rows, short_windows, windows_are_rows}
 use Rattle.window_overlap.proofs.arrays.windows.of_whole.Goals as goal
 

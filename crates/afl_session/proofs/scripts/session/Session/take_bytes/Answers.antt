@@ -2,7 +2,7 @@ use Rattle.std.proofs.Common.{◌≡◌, ◌∙◌, sym, subst, ℕ, ◌+◌, Li
 use Rattle.std.proofs.lemmas.List.{take_all}
 use Rattle.afl_lexer.specs.Split.{closed_statements}
 use Rattle.afl_lexer.specs.Inner.Standing.{Splitting, StandsAfter}
-use Rattle.session_sources.specs.Seats.{last_place, seen, start}
+use Rattle.snapshot_manager.specs.Seats.{last_place, seen, start}
 use Rattle.afl_session.specs.Inner.Serving.{HasAnswered, reached}
 use Rattle.afl_session.specs.Marked.{IsMarked}
 use Rattle.afl_session.proofs.ScriptsEnding.{byte_stops, byte_taken, read_more}

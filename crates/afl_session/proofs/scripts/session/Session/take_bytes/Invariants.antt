@@ -1,7 +1,7 @@
 use Rattle.std.proofs.Common.{◌≡◌, ℕ, List, ◌++◌, take}
 use Rattle.afl_lexer.specs.Split.{closed_statements}
 use Rattle.afl_lexer.specs.Inner.Standing.{StandsAfter}
-use Rattle.session_sources.specs.Seats.{last_place, seen, session_of, start, HoldsNone, IsIdle, IsSeatOf}
+use Rattle.snapshot_manager.specs.Seats.{last_place, seen, session_of, start, HoldsNone, IsIdle, IsSeatOf}
 use Rattle.afl_session.specs.Inner.Serving.{HasAnswered, Reached, reached}
 use Rattle.afl_session.specs.Marked.{IsMarked}
 use Rattle.afl_session.proofs.scripts.session.Session.take_bytes.Given as goal

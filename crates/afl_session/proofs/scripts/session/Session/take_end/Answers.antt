@@ -1,8 +1,8 @@
 use Rattle.std.proofs.Common.{sym, subst}
-use Rattle.session_sources.specs.Seats.{last_place, seen, start}
+use Rattle.snapshot_manager.specs.Seats.{last_place, seen, start}
 use Rattle.afl_session.specs.Inner.Serving.{EndsServing, reached}
 use Rattle.afl_session.specs.Marked.{IsMarked}
-use Rattle.session_reports.specs.declared.reports.SessionEnd.{SessionEnd}
+use Rattle.run_opening.specs.declared.reports.reports.SessionEnd.{SessionEnd}
 use Rattle.afl_session.proofs.ScriptsEnding.{ends_stopped, ends_whole}
 use Rattle.afl_session.proofs.scripts.session.Session.take_end.Goals as goal
 

@@ -1,6 +1,6 @@
 use Rattle.std.proofs.Common.{sym, subst}
 use Rattle.plan_changes.specs.Stored.{AreStored}
-use Rattle.lean_core.proofs.Legal.{ordered_names_are_stored}
+use Rattle.store_versions.proofs.Legal.{ordered_names_are_stored}
 use Rattle.store_ledger.specs.Ledger.{history}
 use Rattle.array_store.proofs.store.store.Store.names.Goals as goal
 

@@ -1,6 +1,6 @@
 use Rattle.std.proofs.Common.{sym, ◌∙◌, ap, subst}
-use Rattle.page_slots.specs.Standing.{IsSound}
-use Rattle.page_slots.specs.declared.slots.slots.Slots.{Slots}
+use Rattle.page_chain.specs.Standing.{IsSound}
+use Rattle.page_chain.specs.declared.slots.slots.slots.Slots.{Slots}
 use Rattle.page_file.specs.FilesOpened.{OpenFile}
 use Rattle.page_file.proofs.AimLemmas.{aimed_sound}
 use Rattle.page_file.proofs.files.file.PageFile.aim.Goals as goal

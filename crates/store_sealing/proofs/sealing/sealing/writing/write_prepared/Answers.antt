@@ -1,5 +1,5 @@
 use Rattle.std.proofs.Common.{List, sym, subst}
-use Rattle.commit_writes.specs.declared.placed.Placed.{Placed}
+use Rattle.page_file.specs.declared.commits.placed.Placed.{Placed}
 use Rattle.store_sealing.specs.Inner.Writing.{CameTo, MayBeWritten}
 use Rattle.store_sealing.proofs.Came.{no_fall, count_of}
 use Rattle.store_sealing.proofs.sealing.sealing.writing.write_prepared.Goals as goal

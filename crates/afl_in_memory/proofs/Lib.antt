@@ -1,5 +1,0 @@
-pub mod FileLemmas
-pub mod ImageLemmas
-pub mod Memory
-pub mod PlainLemmas
-pub mod RecordLemmas

@@ -1,6 +1,0 @@
-use Rattle.std.proofs.Common.{◌≡◌, ◌++◌, take, drop}
-use Rattle.afl_in_memory.specs.Files.{file_of, without}
-use Rattle.afl_in_memory.proofs.files.place_of.Given as goal
-
-abbrev pub invariant-loop-i : goal.invariant-loop-i
-invariant-loop-i l = (file_of (drop l.i l.file-items) l.name ≡ file_of l.files l.name) × (without l.files l.name ≡ take l.i l.file-items ++ without (drop l.i l.file-items) l.name)

@@ -1,6 +1,0 @@
-use Rattle.std.proofs.Common.{◌≡◌, drop}
-use Rattle.afl_in_memory.specs.Images.{content_after}
-use Rattle.afl_in_memory.proofs.images.replay.Given as goal
-
-abbrev pub invariant-loop-call : goal.invariant-loop-call
-invariant-loop-call l = content_after l.content.items (drop l.call-index l.calls) ≡ content_after l.initial.content.items l.calls

@@ -1,0 +1,12 @@
+//! Checking of queries: from a tree to its typed plan over the stored arrays, or to the first rule that it breaks.
+
+mod call;
+mod content;
+mod group_calls;
+mod join_calls;
+mod moved_calls;
+mod nested;
+mod query;
+
+pub use call::{Call, OverSource, OverTwo};
+pub use query::query_plan;

@@ -1,4 +1,0 @@
-pub mod Inner
-pub mod Laws
-pub mod LiteralRows
-pub mod Literals

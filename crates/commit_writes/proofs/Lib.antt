@@ -1,5 +1,0 @@
-pub mod BaseLemmas
-pub mod BlobLemmas
-pub mod GoingLemmas
-pub mod RecordLemmas
-pub mod SlotLemmas

@@ -1,4 +1,0 @@
-pub mod Commits
-pub mod Examples
-pub mod Inner
-pub mod Moments

@@ -1,3 +1,0 @@
-pub mod Quickly
-pub mod Rows
-pub mod Walks

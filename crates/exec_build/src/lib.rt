@@ -1,8 +1,0 @@
-//! `build`: its rows, and its array straight into chunks.
-#![tactic(auto)]
-
-mod chunks;
-mod rows;
-
-pub use chunks::built_array;
-pub use rows::built_rows;

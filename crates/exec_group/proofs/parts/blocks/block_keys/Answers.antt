@@ -1,7 +1,0 @@
-use Rattle.exec_group.specs.Inner.Keys.{block_at}
-use Rattle.exec_group.proofs.KeyLaws.{next_key}
-use Rattle.exec_group.proofs.parts.blocks.block_keys.Goals as goal
-
-pub loop-row-preserved : goal.loop-row-preserved
-loop-row-preserved c =
-    next_key (block_at c.args.dims.now c.args.sizes.now) c.as_slice-row-items.result.now c.loop-row.row-index c.row-item.result c.loop-row.keys c.push.new.self c.block_key.result c.loop-row-test.true c.row-item.is c.loop-row.invariant c.block_key.ensures c.in_ok-push.ensures.ok

@@ -1,7 +1,0 @@
-use Rattle.logical_plan.specs.BoxOps.{numbers_at}
-use Rattle.exec_group.proofs.KeyLaws.{next_key}
-use Rattle.exec_group.proofs.parts.named.named_keys.Goals as goal
-
-pub loop-row-preserved : goal.loop-row-preserved
-loop-row-preserved c =
-    next_key (numbers_at c.args.dims.now) c.as_slice-row-items.result.now c.loop-row.row-index c.row-item.result c.loop-row.keys c.push.new.self c.named_key.result c.loop-row-test.true c.row-item.is c.loop-row.invariant c.named_key.ensures c.in_ok-push.ensures.ok

@@ -1,5 +1,0 @@
-use Rattle.std.proofs.Common.{length}
-use Rattle.exec_group.proofs.parts.results.+values_told.Given as goal
-
-abbrev pub decreases-values_told : goal.decreases-values_told
-decreases-values_told l = length l.states

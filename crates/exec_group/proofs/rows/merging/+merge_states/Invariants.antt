@@ -1,5 +1,0 @@
-use Rattle.std.proofs.Common.{length}
-use Rattle.exec_group.proofs.rows.merging.+merge_states.Given as goal
-
-abbrev pub decreases-merge_states : goal.decreases-merge_states
-decreases-merge_states l = length l.left

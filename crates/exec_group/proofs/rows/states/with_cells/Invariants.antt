@@ -1,9 +1,0 @@
-use Rattle.std.proofs.Common.{◌≡◌, ◌+◌}
-use Rattle.exec_group.proofs.TakenLaws.{StandsAlso}
-use Rattle.exec_group.proofs.rows.states.with_cells.Given as goal
-
-abbrev pub invariant-loop-row : goal.invariant-loop-row
-invariant-loop-row l = record {
-  also : StandsAlso l.aggregate l.rows l.fn.state l.row-index l.state;
-  cells : l.state.cells ≡ l.fn.state.cells + l.row-index;
-}

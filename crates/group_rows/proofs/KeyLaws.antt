@@ -1,0 +1,71 @@
+-- The groups of rows, row by row.
+use Rattle.std.proofs.Common.{◌≡◌, ℕ, ℤ, zero, suc, pos, negsuc, ◌+◌, ◌-◌, ◌/◌, ◌^◌, ◌<◌, ◌≤◌, ◌≤ℤ◌, ◌+ℤ◌, ◌-ℤ◌, unsigned_abs, min, List, [], ◌∷◌, ◌++◌, map, length, get_or, take, drop, append_assoc, sym, ap, ◌∙◌, subst, arith}
+use Rattle.std.proofs.lemmas.List.{take_more, take_rest, map-append, length-map}
+use Rattle.std.specs.Prelude.{slice_index_or}
+use Rattle.std.proofs.lemmas.Int.{ints}
+use Rattle.std.specs.Int.{w64, saturate_signed}
+use Rattle.arrayvec.specs.ArrayVec.{ArrayVec}
+use Rattle.cell_values.specs.declared.datum.Row.{Row}
+use Rattle.cell_values.specs.declared.schema.Dimension.{Dimension}
+use Rattle.array_rows.specs.Rows.{Coordinate}
+use Rattle.array_geom.specs.Inner.Ranges.{IsNear}
+use Rattle.logical_plan.specs.Groups.{block}
+use Rattle.group_rows.specs.Inner.Keys.{block_at}
+use Rattle.std.proofs.Common.{Result}
+use Rattle.std.specs.Prelude.{IfOk}
+use Rattle.cell_values.specs.declared.memory.Memory.{Memory}
+use Rattle.logical_plan.specs.declared.parts.Aggregate.{Aggregate}
+use Rattle.group_rows.specs.declared.rows.groups.Groups.{Groups}
+use Rattle.group_rows.specs.Grouped.{AreGroupsOf}
+use Rattle.group_rows.specs.Sets.{AreKeys, sets_by}
+
+in_limits : (z : ℤ) → negsuc (2 ^ 63 - 1) ≤ℤ z → z ≤ℤ pos (2 ^ 63 - 1) → saturate_signed w64 z ≡ z
+in_limits (pos n) low high = let few : n ≤ 2 ^ 63 - 1 = omega (arith, ints) in let same : min n (2 ^ 63 - 1) ≡ n = omega arith in ap pos same
+in_limits (negsuc n) low high = let few : n ≤ 2 ^ 63 - 1 = omega (arith, ints) in let same : min n (2 ^ 63 - 1) ≡ n = omega arith in ap negsuc same
+
+no_more : (n size : ℕ) → n / size ≤ n
+no_more n zero = grind arith
+no_more n (suc size) = grind arith
+
+-- the block of a number of a dimension has 64 bits
+pub exact_block : (d : Dimension) (size : ℕ) (x : ℤ) → IsNear d → d.lo ≤ℤ x → x ≤ℤ d.hi → saturate_signed w64 (block d.lo size x) ≡ block d.lo size x
+exact_block d size x near l h =
+    let low : negsuc (2 ^ 62 - 2) ≤ℤ d.lo = near.low in
+    let high : d.hi ≤ℤ pos (2 ^ 62 - 1) = near.high in
+    let less = no_more (unsigned_abs (x -ℤ d.lo)) size in
+    let whole : d.lo +ℤ pos (unsigned_abs (x -ℤ d.lo)) ≡ x = omega (arith, ints, l) in
+    in_limits (block d.lo size x) (omega (arith, ints, low)) (omega (arith, ints, less, whole, h, high))
+
+pub next_key : (group : Coordinate → Coordinate) (rows : List Row) (i : ℕ) (row : Row) (keys new : List (ArrayVec ℤ)) (key : ArrayVec ℤ) → i < length rows → row ≡ get_or rows i row
+    → AreKeys group keys (take i rows) → key.items ≡ group row.at.items → new ≡ keys ++ key ∷ [] → AreKeys group new (take (i + 1) rows)
+next_key group rows i row keys new key l e k own n =
+    ap (map (λ (z : ArrayVec ℤ). z.items)) n
+    ∙ map-append (λ (z : ArrayVec ℤ). z.items) keys (key ∷ [])
+    ∙ (λ j. k j ++ own j ∷ [])
+    ∙ sym (map-append (λ (z : Row). group z.at.items) (take i rows) (row ∷ []))
+    ∙ ap (λ (z : Row). map (λ (r : Row). group r.at.items) (take i rows ++ z ∷ [])) e
+    ∙ ap (map (λ (z : Row). group z.at.items)) (sym (take_more rows i row l))
+
+-- a key for each row
+pub each_key : (group : Coordinate → Coordinate) (keys : List (ArrayVec ℤ)) (rows : List Row) → AreKeys group keys rows → length keys ≡ length rows
+each_key group keys rows k = sym (length-map keys (λ (z : ArrayVec ℤ). z.items)) ∙ ap length k ∙ length-map rows (λ (z : Row). group z.at.items)
+
+-- the groups of rows by their keys
+pub keyed : (gs : List Aggregate) (group : Coordinate → Coordinate) (keys keys' : List (ArrayVec ℤ)) (rows rows' : List Row) (r : Result Groups Memory) → keys' ≡ keys → rows' ≡ rows → AreKeys group keys rows
+    → ((g : Coordinate → Coordinate) → AreKeys g keys' rows' → IfOk r (λ part. AreGroupsOf gs (sets_by g rows') part.groups)) → IfOk r (λ part. AreGroupsOf gs (sets_by group rows) part.groups)
+keyed gs group keys keys' rows rows' r e f k h =
+    subst (λ (rs : List Row). IfOk r (λ part. AreGroupsOf gs (sets_by group rs) part.groups)) f
+    (h group (subst (λ (ks : List (ArrayVec ℤ)). AreKeys group ks rows') (sym e) (subst (AreKeys group keys) (sym f) k)))
+
+-- the first block, and those behind it
+pub next_block : (dims : List Dimension) (sizes : List ℕ) (c out out' new : List ℤ) (d : Dimension) (b : ℤ) → 1 ≤ length dims → 1 ≤ length sizes → 1 ≤ length c → d ≡ slice_index_or dims 0 d
+    → b ≡ block d.lo (slice_index_or sizes 0 0) (slice_index_or c 0 (pos 0)) → out' ≡ out ++ b ∷ []
+    → new ≡ out' ++ block_at (take (length dims - 1) (drop 1 dims)) (take (length sizes - 1) (drop 1 sizes)) (take (length c - 1) (drop 1 c)) → new ≡ out ++ block_at dims sizes c
+next_block [] sizes c out out' new d b k l m e f g h = absurd (omega (arith, k))
+next_block (first ∷ dims) [] c out out' new d b k l m e f g h = absurd (omega (arith, l))
+next_block (first ∷ dims) (size ∷ sizes) [] out out' new d b k l m e f g h = absurd (omega (arith, m))
+next_block (first ∷ dims) (size ∷ sizes) (x ∷ c) out out' new d b k l m e f g h =
+    h
+    ∙ (λ i. g i ++ block_at (take_rest (first ∷ dims) 1 i) (take_rest (size ∷ sizes) 1 i) (take_rest (x ∷ c) 1 i))
+    ∙ append_assoc out (b ∷ []) (block_at dims sizes c)
+    ∙ ap (λ (z : ℤ). out ++ z ∷ block_at dims sizes c) (f ∙ ap (λ (z : Dimension). block z.lo size x) e)

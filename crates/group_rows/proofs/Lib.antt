@@ -1,0 +1,13 @@
+pub mod ColumnLaws
+pub mod FormLaws
+pub mod InsideLaws
+pub mod KeyLaws
+pub mod KindLaws
+pub mod MergeLaws
+pub mod PartsPartLaws
+pub mod RowLemmas
+pub mod RowsPartLaws
+pub mod StateLaws
+pub mod TakenLaws
+pub mod ToldLaws
+pub mod WholeLaws

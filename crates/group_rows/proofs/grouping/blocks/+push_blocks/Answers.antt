@@ -1,0 +1,13 @@
+use Rattle.std.proofs.Common.{pos, get_or, rules}
+use Rattle.std.proofs.lemmas.Int.{to_z-of_z}
+use mir.Val.{SFits}
+use mir.Syntax.{w64}
+use Rattle.group_rows.proofs.KeyLaws.{next_block}
+use Rattle.group_rows.proofs.grouping.blocks.+push_blocks.Goals as goal
+
+pub returns-in-len1-up-at : goal.returns-in-len1-up-at
+returns-in-len1-up-at t c =
+    let fits : SFits w64 (get_or c.args.at.now 0 (pos 0)) = search rules in
+    let made : SFits w64 c.block_of.result = search rules in
+    next_block c.args.dims.now c.args.sizes.now c.args.at.now c.args.out.now.items c.push.new.self.items c.push_blocks.new.out.items c.dimension-item.result c.block_of.result c.in-len1-up.len_at_least c.in-len1-up-sizes.len_at_least c.in-len1-up-at.len_at_least c.dimension-item.is
+    (simp to_z-of_z at c.block_of.ensures) (simp to_z-of_z at c.push.ensures.items) c.push_blocks.ensures

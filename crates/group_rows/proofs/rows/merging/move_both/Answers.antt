@@ -1,0 +1,12 @@
+use Rattle.group_rows.proofs.MergeLaws.{both_move, cells_united}
+use Rattle.group_rows.proofs.rows.merging.move_both.Goals as goal
+
+pub returns-in_ok-push-clause-moved : goal.returns-in_ok-push-clause-moved
+returns-in_ok-push-clause-moved c =
+    both_move c.args.merged.now c.push.new.self c.args.left.now.items c.args.right.now.items c.pop_front.new.self.items c.pop_front-in-Some.new.self.items c.in-Some.group c.in-Some-pop_front.other c.in_ok-merge_group.field-0
+    c.in-Some.ensures.items c.in-Some-pop_front.ensures.items c.requires.same c.in_ok-merge_group.ensures.at c.in_ok-merge_group.ensures.states c.in_ok-push.ensures.ok
+
+pub returns-in_ok-push-clause-cells : goal.returns-in_ok-push-clause-cells
+returns-in_ok-push-clause-cells c =
+    cells_united c.args.merged.now c.push.new.self c.args.left.now.items c.args.right.now.items c.pop_front.new.self.items c.pop_front-in-Some.new.self.items c.in-Some.group c.in-Some-pop_front.other c.in_ok-merge_group.field-0
+    c.in-Some.ensures.items c.in-Some-pop_front.ensures.items c.in_ok-push.ensures.ok c.in_ok-merge_group.ensures.cells

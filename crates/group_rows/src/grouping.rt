@@ -1,0 +1,8 @@
+//! The groups of rows by their numbers in some dimensions, and by blocks.
+
+mod blocks;
+mod by_keys;
+mod named;
+
+pub use by_keys::{aggregate_groups, regrid_groups};
+pub use named::zero;

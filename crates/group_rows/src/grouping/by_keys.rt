@@ -1,0 +1,54 @@
+//! The groups of the cells of rows.
+ghost use Rattle.std.specs.Prelude.{◌≡◌, ◌≤◌, ◌<◌, ◌^◌, length, IsTrue, IfOk};
+ghost use Rattle.std.specs.List.{All};
+ghost use Rattle.cell_values.specs.Schemas.{IsValid};
+ghost use Rattle.array_rows.specs.Boxes.{is_inside, bounds_of};
+ghost use Rattle.array_rows.specs.Rows.{IsRising};
+ghost use Rattle.group_rows.specs.Counts.{cells_in};
+ghost use Rattle.group_rows.specs.Grouped.{AreGroupsOf};
+ghost use Rattle.group_rows.specs.Inner.Keys.{aggregate_sets, regrid_sets};
+
+use crate::grouping::blocks::block_keys;
+use crate::grouping::named::{named_keys, zero};
+use crate::rows::{Groups, groups_of, one_group};
+use cell_values::{List, Memory, Row, Schema};
+use logical_plan::Aggregate;
+
+/// The groups of cells that agree in the named dimensions. Without names all are in one group at 0.
+pub fn aggregate_groups(
+    rows: &List<Row>,
+    aggs: &[Aggregate],
+    dims: &[u32],
+) -> Result<Groups, Memory>
+    requires few { length rows.now < 2 ^ 63 }
+    requires rising { IsRising rows.now }
+    requires names { length dims.now ≤ 6 }
+    ensures groups { IfOk result (λ part. AreGroupsOf aggs.now (aggregate_sets dims.now rows.now) part.groups) }
+    ensures cells { IfOk result (λ part. cells_in part.groups ≤ length rows.now) }
+{
+    match dims {
+        [] => one_group(rows.allocator(), aggs, &zero(), rows.as_slice()),
+        [_, ..] => {
+            let keys = named_keys(dims, rows)?;
+            groups_of(rows.allocator(), aggs, keys.as_slice(), rows.as_slice())
+        }
+    }
+}
+
+/// The groups of cells by blocks, which are counted from the low bounds of the array.
+pub fn regrid_groups(
+    schema: &Schema,
+    rows: &List<Row>,
+    blocks: &[u64],
+    aggs: &[Aggregate],
+) -> Result<Groups, Memory>
+    requires valid { IsValid schema.now }
+    requires few { length rows.now < 2 ^ 63 }
+    requires rising { IsRising rows.now }
+    requires inside { All (λ row. IsTrue (is_inside (bounds_of schema.now.dimensions) row.at.items)) rows.now }
+    ensures groups { IfOk result (λ part. AreGroupsOf aggs.now (regrid_sets schema.now.dimensions blocks.now rows.now) part.groups) }
+    ensures cells { IfOk result (λ part. cells_in part.groups ≤ length rows.now) }
+{
+    let keys = block_keys(schema.dimensions.as_slice(), blocks, rows)?;
+    groups_of(rows.allocator(), aggs, keys.as_slice(), rows.as_slice())
+}

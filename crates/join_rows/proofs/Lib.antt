@@ -1,0 +1,3 @@
+pub mod MoveLaws
+pub mod PartnerLaws
+pub mod RowsCrossLaws

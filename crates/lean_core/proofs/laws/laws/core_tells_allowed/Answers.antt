@@ -1,5 +1,0 @@
-use Rattle.event_core.proofs.Steps.{core_allows_is}
-use Rattle.lean_core.proofs.laws.laws.core_tells_allowed.Goals as goal
-
-pub returns : goal.returns
-returns c = core_allows_is

@@ -1,5 +1,0 @@
-use Rattle.lean_core.proofs.Pins.{open_pins_are_these, core_pins_are_these}
-use Rattle.lean_core.proofs.laws.laws.open_pins_are_these.Goals as goal
-
-pub returns : goal.returns
-returns c = record { history = open_pins_are_these; core = core_pins_are_these }

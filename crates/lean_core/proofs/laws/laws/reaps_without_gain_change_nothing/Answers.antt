@@ -1,5 +1,0 @@
-use Rattle.lean_core.proofs.Conserved.{reaps_without_gain_change_nothing}
-use Rattle.lean_core.proofs.laws.laws.reaps_without_gain_change_nothing.Goals as goal
-
-pub returns : goal.returns
-returns c = reaps_without_gain_change_nothing

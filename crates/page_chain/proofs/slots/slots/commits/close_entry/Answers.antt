@@ -1,0 +1,36 @@
+use Rattle.std.proofs.Common.{◌≡◌, ℕ, [], ◌∷◌, length, true, refl, sym, subst}
+use Rattle.afl_outside.specs.Disk.{written}
+use Rattle.page_chain.specs.declared.slots.slots.slots.Slots.{Slots}
+use Rattle.page_chain.specs.Standing.{entry_gate, IsSound}
+use Rattle.page_chain.proofs.Lifts.{done_at, failed_at, puts_at, sound_done, sound_failed, always_opens}
+use Rattle.page_chain.proofs.EntryCommits.{close_done, close_failed, close_opens}
+use Rattle.page_chain.proofs.slots.slots.commits.close_entry.Goals as goal
+
+pub returns-in-Ok-clause-sound : goal.returns-in-Ok-clause-sound
+returns-in-Ok-clause-sound g c =
+    let at : c.entry_gate-place.result ≡ entry_gate c.args.slots.now = c.entry_gate-place.ensures in
+    sound_done c.args.slots.now c.shut.new.self (entry_gate c.args.slots.now) (0 ∷ []) (g.D.Disk.moment c.args.disk.now).state (g.D.Disk.moment c.put.new.disk).state (g.D.Disk.moment c.args.disk.now).may_leave (g.D.Disk.moment c.put.new.disk).may_leave (g.met.D.Disk.as_read c.args.disk.now)
+    (done_at (g.D.Disk.moment c.args.disk.now).state (g.D.Disk.moment c.put.new.disk).state (g.D.Disk.moment c.put.new.disk).may_leave (c.entry_gate-place.result) (entry_gate c.args.slots.now) (0 ∷ []) (0 ∷ []) at refl c.in-Ok.ensures.put)
+    (λ seen here only sound. subst (λ (s : Slots). IsSound s (written (entry_gate c.args.slots.now) (0 ∷ []) seen) (g.D.Disk.moment c.put.new.disk).may_leave) (sym c.shut.ensures) (close_done c.args.slots.now c.requires.target c.requires.there seen (g.D.Disk.moment c.args.disk.now).may_leave (g.D.Disk.moment c.put.new.disk).may_leave c.requires.ajar here only sound))
+
+pub returns-in-Ok-clause-opens : goal.returns-in-Ok-clause-opens
+returns-in-Ok-clause-opens g c =
+    let at : c.entry_gate-place.result ≡ entry_gate c.args.slots.now = c.entry_gate-place.ensures in
+    always_opens c.args.slots.now (c.args.slots.now) (entry_gate c.args.slots.now) 1 (g.D.Disk.moment c.args.disk.now).state (g.D.Disk.moment c.put.new.disk).state (g.D.Disk.moment c.args.disk.now).left_since (g.D.Disk.moment c.put.new.disk).left_since (g.D.Disk.moment c.args.disk.now).may_leave (g.D.Disk.moment c.put.new.disk).may_leave
+    (puts_at (c.entry_gate-place.result) (entry_gate c.args.slots.now) (length {A = ℕ} (0 ∷ [])) 1 (g.D.Disk.moment c.args.disk.now).state (g.D.Disk.moment c.put.new.disk).state (g.D.Disk.moment c.args.disk.now).left_since (g.D.Disk.moment c.put.new.disk).left_since (g.D.Disk.moment c.args.disk.now).may_leave (g.D.Disk.moment c.put.new.disk).may_leave at (refl) c.put.ensures.writes)
+    (λ seen sound. close_opens c.args.slots.now c.requires.target c.requires.there seen (g.D.Disk.moment c.args.disk.now).may_leave c.requires.ajar sound)
+
+pub returns-in-Err-clause-sound : goal.returns-in-Err-clause-sound
+returns-in-Err-clause-sound g c =
+    let at : c.entry_gate-place.result ≡ entry_gate c.args.slots.now = c.entry_gate-place.ensures in
+    let puts = puts_at (c.entry_gate-place.result) (entry_gate c.args.slots.now) (length {A = ℕ} (0 ∷ [])) 1 (g.D.Disk.moment c.args.disk.now).state (g.D.Disk.moment c.put.new.disk).state (g.D.Disk.moment c.args.disk.now).left_since (g.D.Disk.moment c.put.new.disk).left_since (g.D.Disk.moment c.args.disk.now).may_leave (g.D.Disk.moment c.put.new.disk).may_leave at (refl) c.put.ensures.writes in
+    sound_failed c.args.slots.now (record (c.args.slots.now) { doubtful = true }) (entry_gate c.args.slots.now) 1 (g.D.Disk.moment c.args.disk.now).state (g.D.Disk.moment c.put.new.disk).state (g.D.Disk.moment c.args.disk.now).may_leave (g.D.Disk.moment c.put.new.disk).may_leave (g.met.D.Disk.as_read c.args.disk.now)
+    (failed_at (g.D.Disk.moment c.args.disk.now).state (g.D.Disk.moment c.put.new.disk).state (c.entry_gate-place.result) (entry_gate c.args.slots.now) (length {A = ℕ} (0 ∷ [])) 1 at (refl) c.in-Err.ensures.put)
+    (λ seen torn here tore sound. close_failed c.args.slots.now c.requires.target c.requires.there seen torn (g.D.Disk.moment c.args.disk.now).may_leave (g.D.Disk.moment c.put.new.disk).may_leave c.requires.ajar here tore puts.crash sound)
+
+pub returns-in-Err-clause-opens : goal.returns-in-Err-clause-opens
+returns-in-Err-clause-opens g c =
+    let at : c.entry_gate-place.result ≡ entry_gate c.args.slots.now = c.entry_gate-place.ensures in
+    always_opens c.args.slots.now (c.args.slots.now) (entry_gate c.args.slots.now) 1 (g.D.Disk.moment c.args.disk.now).state (g.D.Disk.moment c.put.new.disk).state (g.D.Disk.moment c.args.disk.now).left_since (g.D.Disk.moment c.put.new.disk).left_since (g.D.Disk.moment c.args.disk.now).may_leave (g.D.Disk.moment c.put.new.disk).may_leave
+    (puts_at (c.entry_gate-place.result) (entry_gate c.args.slots.now) (length {A = ℕ} (0 ∷ [])) 1 (g.D.Disk.moment c.args.disk.now).state (g.D.Disk.moment c.put.new.disk).state (g.D.Disk.moment c.args.disk.now).left_since (g.D.Disk.moment c.put.new.disk).left_since (g.D.Disk.moment c.args.disk.now).may_leave (g.D.Disk.moment c.put.new.disk).may_leave at (refl) c.put.ensures.writes)
+    (λ seen sound. close_opens c.args.slots.now c.requires.target c.requires.there seen (g.D.Disk.moment c.args.disk.now).may_leave c.requires.ajar sound)

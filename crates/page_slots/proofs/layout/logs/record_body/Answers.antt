@@ -1,7 +1,0 @@
-use Rattle.std.proofs.Common.{List, ℕ, ◌∙◌, ap, rules, arith}
-use Rattle.page_slots.specs.Logs.{record_at}
-use Rattle.page_slots.proofs.Kept.{record_spelled}
-use Rattle.page_slots.proofs.layout.logs.record_body.Goals as goal
-
-pub returns-clause-reads : goal.returns-clause-reads
-returns-clause-reads c = ap (λ (xs : List ℕ). record_at 0 xs) c.record_bytes.ensures ∙ record_spelled c.args.at (search rules) (search rules)

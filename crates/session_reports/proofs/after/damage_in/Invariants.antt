@@ -1,6 +1,0 @@
-use Rattle.std.proofs.Common.{◌≡◌, drop}
-use Rattle.session_reports.specs.Outcomes.{damage_in}
-use Rattle.session_reports.proofs.after.damage_in.Given as goal
-
-abbrev pub invariant-loop-mark : goal.invariant-loop-mark
-invariant-loop-mark l = damage_in l.marks ≡ damage_in (drop l.mark-index l.marks)

@@ -1,6 +1,0 @@
-use Rattle.std.proofs.Common.{◌≡◌, drop}
-use Rattle.session_reports.specs.Outcomes.{first_damage}
-use Rattle.session_reports.proofs.after.damage_of.Given as goal
-
-abbrev pub invariant-loop-session : goal.invariant-loop-session
-invariant-loop-session g l = first_damage l.sessions ≡ first_damage (drop l.session-index l.sessions)

@@ -1,2 +1,0 @@
-pub mod Notice
-pub mod Outcomes

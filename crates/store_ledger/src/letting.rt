@@ -1,0 +1,15 @@
+//! What is let go. That each can be let go is proved here once, and not again in each crate that calls this.
+
+use crate::Ledger;
+use event_core::let_go_entries;
+use std::snapshot::Snapshot;
+
+/// Lets go what was seen. It may be anything, so that nothing of it has to be let go.
+pub fn let_go_seen<T>(seen: Snapshot<T>) {
+    drop(seen);
+}
+
+/// Lets a ledger go.
+pub fn let_go_ledger(ledger: Ledger) {
+    let_go_entries(ledger.into_entries());
+}

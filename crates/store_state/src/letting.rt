@@ -1,0 +1,13 @@
+//! What is let go. That each can be let go is proved here once, and not again in each crate that calls this.
+
+use store_versions::{ReadyVersion, VersionTable};
+
+/// Lets the version go that a change makes.
+pub fn let_go_version(version: Option<ReadyVersion>) {
+    drop(version);
+}
+
+/// Lets a table of versions go.
+pub fn let_go_table(table: VersionTable) {
+    drop(table);
+}

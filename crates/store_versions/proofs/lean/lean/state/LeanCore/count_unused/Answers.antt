@@ -1,0 +1,8 @@
+use Rattle.std.proofs.Common.{◌∙◌, ap, false, length, replicate}
+use Rattle.event_core.proofs.Reaping.{unmarked}
+use Rattle.store_versions.proofs.lean.lean.state.LeanCore.count_unused.Goals as goal
+
+pub returns-clause-count : goal.returns-clause-count
+returns-clause-count c =
+    c.free_of.ensures
+    ∙ ap length (unmarked c.args.self.now.core c.clear.new.self c.mark_live.new.set (c.clear.ensures ∙ ap (λ n. replicate n false) c.requires) c.mark_live.ensures.limit c.mark_live.ensures.pages)

@@ -1,3 +1,0 @@
-mod Crossing
-pub mod StepsSeeing
-pub mod VisitsSeeing

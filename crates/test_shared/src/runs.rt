@@ -1,5 +1,0 @@
-//! A store that three sessions share, on one thread.
-
-mod runs;
-
-pub use runs::{Run, answer_to, finished, reaped, shared_by_three};
