@@ -55,9 +55,36 @@ fn tell_links(
 ) -> Result<()> {
     print!(rt; "{title}: ")?;
     let mut disk = disk_of(rt.alloc(), links, &[])?;
-    tell_chain(rt, &mut disk, first, count, taken)
+    let told = tell_chain(rt, &mut disk, first, count, taken);
+    drop(disk);
+    told
 }
 
+/// Reads a blob, and prints it.
+fn tell_read_blob(
+    rt: &(impl Print + AllocGlobal),
+    disk: &mut MemDisk,
+    pages: &[u32],
+    count: u64,
+) -> Result<()> {
+    if pages.len() as u64 != blob_pages(count) {
+        println!(rt; "another number of pages")?;
+        return Ok(());
+    }
+    match read_blob(rt.alloc(), disk, pages, count) {
+        Ok(bytes) => {
+            let told = tell_bytes(rt, &bytes);
+            drop(bytes);
+            told
+        }
+        Err(fault) => {
+            println!(rt; "{fault}")?;
+            Ok(())
+        }
+    }
+}
+
+/// A blob in a file of two pages, these calls of which fail.
 fn tell_blob(
     rt: &(impl Print + AllocGlobal),
     title: &str,
@@ -66,29 +93,28 @@ fn tell_blob(
     count: u64,
 ) -> Result<()> {
     print!(rt; "{title}: ")?;
-    if pages.len() as u64 != blob_pages(count) {
-        println!(rt; "another number of pages")?;
-        return Ok(());
-    }
     let mut disk = disk_of(rt.alloc(), &[0, 1], fails)?;
-    match read_blob(rt.alloc(), &mut disk, pages, count) {
-        Ok(bytes) => tell_bytes(rt, &bytes),
-        Err(fault) => {
-            println!(rt; "{fault}")?;
-            Ok(())
-        }
-    }
+    let told = tell_read_blob(rt, &mut disk, pages, count);
+    drop(disk);
+    told
 }
 
-/// Writes a chain to pages 2 and 1 of an empty disk, one call of which fails, then a blob to pages 4 and 3, and reads the chain.
-fn tell_written(rt: &(impl Print + AllocGlobal), fails: u64) -> Result<()> {
-    print!(rt; "call {fails} fails: ")?;
-    let mut disk = disk_of(rt.alloc(), &[], &[fails])?;
-    if !write_two(rt.alloc(), &mut disk)? {
+/// Writes a chain to pages 2 and 1 of an empty disk, then a blob to pages 4 and 3, and reads the chain.
+fn tell_two(rt: &(impl Print + AllocGlobal), disk: &mut MemDisk) -> Result<()> {
+    if !write_two(rt.alloc(), disk)? {
         println!(rt; "not written")?;
         return Ok(());
     }
-    tell_chain(rt, &mut disk, 2, 5000, &[])
+    tell_chain(rt, disk, 2, 5000, &[])
+}
+
+/// The same where one call of the disk fails.
+fn tell_written(rt: &(impl Print + AllocGlobal), fails: u64) -> Result<()> {
+    print!(rt; "call {fails} fails: ")?;
+    let mut disk = disk_of(rt.alloc(), &[], &[fails])?;
+    let told = tell_two(rt, &mut disk);
+    drop(disk);
+    told
 }
 
 fn tell_read(rt: &(impl Print + AllocGlobal)) -> Result<()> {
