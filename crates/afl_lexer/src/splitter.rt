@@ -74,7 +74,6 @@ impl Place {
 
 /// Cuts a script into statements, with memory for one of them. A text runs from a `'` to the next that no `\` escapes;
 /// a comment runs from `--` to the line feed, or to the script's end.
-#[derive(Drop)]
 pub struct Splitter {
     /// Where the next byte stands.
     place: Place,
@@ -87,6 +86,19 @@ pub struct Splitter {
     is_blank: bool,
     /// Whether a `;` ended it.
     is_ended: bool,
+}
+
+impl Drop for Splitter {
+    fn drop(self) {
+        let Splitter {
+            place: _,
+            start: _,
+            end: _,
+            bytes: _,
+            is_blank: _,
+            is_ended: _,
+        } = self;
+    }
 }
 
 impl Model for Splitter {

@@ -15,9 +15,9 @@ use Rattle.afl_session.specs.Acts.{Act, Course, acts_for, acts_in, acts_of_note,
 use Rattle.afl_session.specs.Replies.{HasFault}
 use Rattle.snapshot_manager.specs.Start.{Start}
 use Rattle.afl_session.proofs.ActsJoined.{acts_join}
-use Rattle.snapshot_manager.specs.Courses.{AddsOwn, IsFaultAtMost}
+use Rattle.session_sources.specs.Courses.{AddsOwn, IsFaultAtMost}
 use Rattle.snapshot_manager.specs.Told.{ledger_of}
-use Rattle.snapshot_manager.proofs.CourseLaws.{courses_keep_notes}
+use Rattle.session_sources.proofs.CourseLaws.{courses_keep_notes}
 
 -- ---- a statement does nothing between its pin and its unpin but try and make a commit
 

@@ -16,7 +16,7 @@ use Rattle.snapshot_manager.specs.Growth.{tried_events}
 use Rattle.snapshot_manager.specs.Tried.{IsFaultOrNone}
 use Rattle.snapshot_manager.specs.Turns.{leaves_pin_of, own_events}
 use Rattle.snapshot_manager.proofs.Telling.{entries_in-append}
-use Rattle.snapshot_manager.specs.Courses.{IsFaultAtMost}
+use Rattle.session_sources.specs.Courses.{IsFaultAtMost}
 use Rattle.snapshot_manager.specs.Told.{entries_in}
 use Rattle.afl_session.specs.Acts.{Act, acts_in, acts_of_note, begins, ends, makes, tries}
 use Rattle.afl_session.proofs.ActsJoined.{acts_join}

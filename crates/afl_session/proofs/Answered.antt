@@ -45,10 +45,10 @@ use Rattle.snapshot_manager.proofs.Sights.{pins_outlast}
 use Rattle.snapshot_manager.proofs.Telling.{entries_are, entries_in-append}
 use Rattle.snapshot_manager.proofs.TriedTurns.{cause_told, fits_told, next_told}
 use Rattle.snapshot_manager.specs.Databases.{HasDatabase}
-use Rattle.snapshot_manager.specs.Held.{names_now}
+use Rattle.session_sources.specs.Held.{names_now}
 use Rattle.snapshot_manager.specs.Seats.{store_of}
 use Rattle.snapshot_manager.specs.Start.{Start}
-use Rattle.snapshot_manager.specs.Stored.{BeginsDamage}
+use Rattle.session_sources.specs.Stored.{BeginsDamage}
 use Rattle.snapshot_manager.specs.Told.{entries_in, ledger_of, told, IsTold}
 use Rattle.afl_session.specs.Refusals.{IsUncommittedReply, IsUnreadReply, IsWant, Refuses}
 use Rattle.afl_session.proofs.Staying.{says_later}

@@ -17,8 +17,8 @@ use Rattle.store_state.specs.Standings.{BeganAs}
 use Rattle.snapshot_manager.specs.Start.{Start}
 use Rattle.snapshot_manager.specs.Told.{ledger_of, told}
 use Rattle.snapshot_manager.specs.Seats.{ledger_seen, seen, start}
-use Rattle.snapshot_manager.specs.declared.sources.reading.Reading.{Reading}
-use Rattle.snapshot_manager.specs.Pinned.{pinned_state}
+use Rattle.session_sources.specs.declared.reading.Reading.{Reading}
+use Rattle.session_sources.specs.Pinned.{pinned_state}
 use Rattle.afl_session.specs.RepliesLaws.{HaveTheSame}
 use Rattle.afl_session.specs.Replies.{names_before}
 use Rattle.afl_session.proofs.BehindPins.{pins_change_nothing}

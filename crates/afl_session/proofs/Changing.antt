@@ -22,8 +22,8 @@ use Rattle.snapshot_manager.specs.Seats.{ledger_seen, seen, start}
 use Rattle.afl_session.specs.Replies.{Says, SaysChange}
 use Rattle.afl_session.proofs.Beginnings.{history_stays}
 use Rattle.afl_session.proofs.Staying.{change_later, says_later}
-use Rattle.snapshot_manager.specs.declared.sources.reading.Reading.{Reading}
-use Rattle.snapshot_manager.specs.Pinned.{unread, HasRead}
+use Rattle.session_sources.specs.declared.reading.Reading.{Reading}
+use Rattle.session_sources.specs.Pinned.{unread, HasRead}
 use Rattle.afl_session.specs.Changing.{HasOutcomesChange, ReadChangesMayBeCommitted}
 use Rattle.afl_session.specs.Said.{IsSaid}
 use Rattle.afl_session.specs.Under.{WasPinned}

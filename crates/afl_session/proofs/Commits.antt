@@ -36,10 +36,10 @@ use Rattle.afl_session.specs.Fresh.{IsNamedAt}
 use Rattle.afl_session.specs.Refusals.{IsUncommittedReply, IsWant, Refuses}
 use Rattle.afl_session.specs.Replies.{names_before, words_of, HadRoomFor, HasLine, HoldsSincePin, IsToldFor, Says, SaysChange, WasAt}
 use Rattle.afl_session.specs.declared.replies.reply.Reply.{Reply}
-use Rattle.snapshot_manager.specs.Courses.{AddsOwn}
+use Rattle.session_sources.specs.Courses.{AddsOwn}
 use Rattle.snapshot_manager.specs.Start.{Start}
 use Rattle.snapshot_manager.specs.Told.{entries_in, ledger_of, told}
-use Rattle.snapshot_manager.proofs.CourseLaws.{courses_join, courses_keep_notes, turns_are_courses}
+use Rattle.session_sources.proofs.CourseLaws.{courses_join, courses_keep_notes, turns_are_courses}
 use Rattle.afl_session.proofs.Behind.{names_behind}
 use Rattle.afl_session.specs.AnsweredUnder.{IsAnsweredInTurn, IsAnsweredUnder}
 use Rattle.afl_session.specs.Inner.Steps.{AddsNoAct}

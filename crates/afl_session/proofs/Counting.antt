@@ -44,8 +44,8 @@ use Rattle.afl_session.proofs.Beginnings.{history_stays, places_see_the_same}
 use Rattle.afl_session.proofs.Behind.{source_tells}
 use Rattle.statement_replies.proofs.Listed.{listed_decide}
 use Rattle.afl_session.proofs.PinPlaces.{open_pins_are_entered}
-use Rattle.snapshot_manager.specs.Courses.{AddsOwn}
-use Rattle.snapshot_manager.specs.Pinned.{pinned_state, unread}
+use Rattle.session_sources.specs.Courses.{AddsOwn}
+use Rattle.session_sources.specs.Pinned.{pinned_state, unread}
 use Rattle.snapshot_manager.specs.Seats.{read_count, seen, start}
 use Rattle.snapshot_manager.specs.Start.{Start}
 use Rattle.snapshot_manager.specs.Told.{entries_in, is_sealed, ledger_of, told}

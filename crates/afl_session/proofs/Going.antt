@@ -30,13 +30,13 @@ use Rattle.store_state.specs.Calls.{IsLeafOf}
 use Rattle.store_state.specs.Events.{events, owner_of}
 use Rattle.store_state.specs.Standings.{Standing}
 use Rattle.snapshot_manager.specs.Databases.{HasDatabase}
-use Rattle.snapshot_manager.specs.Held.{held_state, holding_of, names_now, store_then, unheld, HasHeld}
+use Rattle.session_sources.specs.Held.{held_state, holding_of, names_now, store_then, unheld, HasHeld}
 use Rattle.snapshot_manager.specs.Prepared.{IsAsked, MayBeMade}
 use Rattle.snapshot_manager.specs.Seats.{store_of}
-use Rattle.snapshot_manager.specs.declared.sources.holding.Holding.{Holding}
-use Rattle.snapshot_manager.specs.declared.sources.holding.LentTurn.{LentTurn}
-use Rattle.snapshot_manager.specs.declared.sources.marks.Marks.{Marks}
-use Rattle.snapshot_manager.proofs.VersionLaws.{held_sources_hold_versions}
+use Rattle.session_sources.specs.declared.holding.Holding.{Holding}
+use Rattle.session_sources.specs.declared.holding.LentTurn.{LentTurn}
+use Rattle.session_sources.specs.declared.marks.Marks.{Marks}
+use Rattle.session_sources.proofs.VersionLaws.{held_sources_hold_versions}
 use Rattle.afl_session.specs.BehindPins.{ComesOver}
 use Rattle.afl_session.specs.Inner.Turns.{store_in, IsRead, IsWhy, KeepsTurn}
 use Rattle.afl_session.proofs.Adding.{all_append}

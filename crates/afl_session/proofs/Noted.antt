@@ -9,8 +9,8 @@ use Rattle.store_state.specs.declared.state.event.Event.TheVariants.{Noted}
 use Rattle.snapshot_manager.specs.Start.{Start}
 use Rattle.snapshot_manager.specs.Told.{ledger_of}
 use Rattle.afl_session.specs.Replies.{HasFault}
-use Rattle.snapshot_manager.specs.Courses.{AddsOwn, IsFaultAtMost}
-use Rattle.snapshot_manager.proofs.CourseLaws.{courses_keep_notes}
+use Rattle.session_sources.specs.Courses.{AddsOwn, IsFaultAtMost}
+use Rattle.session_sources.proofs.CourseLaws.{courses_keep_notes}
 use Rattle.snapshot_manager.specs.Seats.{seen, session_of, start}
 use Rattle.afl_session.specs.ToldReplies.{FailuresAreNoted}
 

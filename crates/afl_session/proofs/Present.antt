@@ -23,7 +23,7 @@ use Rattle.store_state.specs.Calls.{database_with, history_at}
 use Rattle.store_state.specs.Standings.{BeganAs}
 use Rattle.snapshot_manager.specs.Starts.{start_of}
 use Rattle.snapshot_manager.specs.Databases.{HasDatabase, IsDatabaseOf}
-use Rattle.snapshot_manager.specs.Held.{held_state, names_now, unheld}
+use Rattle.session_sources.specs.Held.{held_state, names_now, unheld}
 use Rattle.snapshot_manager.specs.Seats.{store_of}
 use Rattle.snapshot_manager.specs.Start.{Start}
 use Rattle.snapshot_manager.specs.Told.{entries_in, told}

@@ -33,12 +33,12 @@ use Rattle.afl_session.specs.Refusals.{IsUnreadReply}
 use Rattle.afl_session.specs.Replies.{words_of}
 use Rattle.afl_session.specs.declared.replies.reply.Reply.{Reply}
 use Rattle.afl_session.proofs.Beginnings.{history_stays}
-use Rattle.snapshot_manager.specs.declared.sources.reading.Lent.{Lent}
-use Rattle.snapshot_manager.specs.declared.sources.reading.Reading.{Reading}
-use Rattle.snapshot_manager.specs.Courses.{AddsOwn}
+use Rattle.session_sources.specs.declared.reading.Lent.{Lent}
+use Rattle.session_sources.specs.declared.reading.Reading.{Reading}
+use Rattle.session_sources.specs.Courses.{AddsOwn}
 use Rattle.snapshot_manager.specs.Databases.{IsDatabaseOf}
-use Rattle.snapshot_manager.specs.Laws.{PinnedSourcesHoldVersions}
-use Rattle.snapshot_manager.specs.Pinned.{pinned_state, reading_of, unread, HasRead}
+use Rattle.session_sources.specs.Laws.{PinnedSourcesHoldVersions}
+use Rattle.session_sources.specs.Pinned.{pinned_state, reading_of, unread, HasRead}
 use Rattle.snapshot_manager.specs.Seats.{ledger_seen, seen, session_of, start}
 use Rattle.snapshot_manager.specs.Start.{Start}
 use Rattle.snapshot_manager.specs.Told.{entries_in, ledger_of}

@@ -25,10 +25,10 @@ use Rattle.afl_session.proofs.ActsJoined.{acts_join}
 use Rattle.afl_session.proofs.Beginnings.{reached}
 use Rattle.afl_session.proofs.PinPlaces.{open_pins_are_entered}
 use Rattle.afl_session.proofs.Staying.{entered_later, replies_stay}
-use Rattle.snapshot_manager.specs.Courses.{AddsOwn}
+use Rattle.session_sources.specs.Courses.{AddsOwn}
 use Rattle.snapshot_manager.specs.Start.{Start}
 use Rattle.snapshot_manager.specs.Told.{entries_in, is_sealed, ledger_of}
-use Rattle.snapshot_manager.proofs.CourseLaws.{courses_join, turns_are_courses}
+use Rattle.session_sources.proofs.CourseLaws.{courses_join, turns_are_courses}
 use Rattle.afl_session.specs.AnsweredUnder.{IsAnsweredUnder}
 use Rattle.afl_session.specs.Answered.{BeganAt}
 use Rattle.afl_session.specs.Inner.Tree.{IsAnsweredTree}

@@ -41,7 +41,7 @@ use Rattle.afl_session.proofs.FreshReplies.{fresh_changes_are_said}
 use Rattle.afl_session.proofs.Staying.{change_later, says_later}
 use Rattle.snapshot_manager.specs.Start.{Start}
 use Rattle.snapshot_manager.specs.Told.{entries_in, ledger_of, told}
-use Rattle.snapshot_manager.proofs.CourseLaws.{own_more}
+use Rattle.session_sources.proofs.CourseLaws.{own_more}
 use Rattle.afl_session.proofs.Freshly.{fresh_changes_are_left_since}
 
 -- ---- what the session itself added

@@ -28,7 +28,7 @@ use Rattle.snapshot_manager.proofs.Telling.{stores_are_told}
 use Rattle.snapshot_manager.specs.declared.seat.Seat.{Seat}
 use Rattle.snapshot_manager.specs.declared.shared.Shared.{Shared}
 use Rattle.snapshot_manager.specs.Databases.{HasDatabase}
-use Rattle.snapshot_manager.specs.Held.{names_now}
+use Rattle.session_sources.specs.Held.{names_now}
 use Rattle.snapshot_manager.specs.Seats.{ledger_seen, seen, session_of, start, store_of, HasTurn, HoldsPin}
 use Rattle.snapshot_manager.specs.Start.{Start}
 use Rattle.snapshot_manager.specs.Told.{ledger_of, IsTold}

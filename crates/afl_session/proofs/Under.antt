@@ -26,10 +26,10 @@ use Rattle.afl_session.specs.Replies.{names_before, words_of, BeganAsNone, HasFa
 use Rattle.afl_session.specs.declared.replies.reply.Reply.{Reply}
 use Rattle.afl_session.proofs.PinPlaces.{open_pins_are_entered}
 use Rattle.afl_session.proofs.Staying.{page_later, replies_stay}
-use Rattle.snapshot_manager.specs.declared.sources.reading.Reading.{Reading}
-use Rattle.snapshot_manager.specs.Courses.{AddsAtMostFault, AddsOwn}
-use Rattle.snapshot_manager.specs.Pinned.{unread, HasRead}
-use Rattle.snapshot_manager.specs.Stored.{BeginsDamage}
+use Rattle.session_sources.specs.declared.reading.Reading.{Reading}
+use Rattle.session_sources.specs.Courses.{AddsAtMostFault, AddsOwn}
+use Rattle.session_sources.specs.Pinned.{unread, HasRead}
+use Rattle.session_sources.specs.Stored.{BeginsDamage}
 use Rattle.afl_session.specs.Said.{IsSaid}
 use Rattle.afl_session.specs.ToldReplies.{IsCause, IsLookedReply}
 use Rattle.afl_session.specs.Under.{FailedRepliesAreTold, HasOutcomesWords, ReadRepliesAreTold, SaysWhy, WasPinned}

@@ -18,7 +18,7 @@ use Rattle.afl_session.specs.Replies.{words_of, HasLine, IsToldFor}
 use Rattle.afl_session.specs.declared.replies.reply.Reply.{Reply}
 use Rattle.snapshot_manager.specs.Start.{Start}
 use Rattle.snapshot_manager.specs.Told.{entries_in}
-use Rattle.snapshot_manager.proofs.CourseLaws.{courses_may_be_empty}
+use Rattle.session_sources.proofs.CourseLaws.{courses_may_be_empty}
 use Rattle.afl_session.specs.Answered.{IsAnswered, IsStopReply}
 use Rattle.afl_session.specs.Inner.Tree.{IsAnsweredTree}
 use Rattle.afl_session.specs.Reads.{ReadsOnce}

@@ -11,7 +11,7 @@ use Rattle.statement_replies.specs.declared.replies.style.Style.{Style}
 use Rattle.store_state.specs.declared.state.event.Event.{Event}
 use Rattle.snapshot_manager.specs.Start.{Start}
 use Rattle.snapshot_manager.specs.Told.{entries_in}
-use Rattle.snapshot_manager.specs.Courses.{AddsOwn}
+use Rattle.session_sources.specs.Courses.{AddsOwn}
 use Rattle.afl_session.specs.Acts.{acts_for, acts_in, Course, nothing}
 use Rattle.afl_session.specs.Refusals.{IsWantBetween}
 use Rattle.afl_session.specs.Replies.{words_of, EnteredAt, HadNoRoom, HasLine, IsToldFor}

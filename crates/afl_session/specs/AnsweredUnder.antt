@@ -7,7 +7,7 @@ use Rattle.store_ledger.specs.Ledger.{is_fault, is_noted}
 use Rattle.store_state.specs.declared.state.event.Event.{Event}
 use Rattle.snapshot_manager.specs.Start.{Start}
 use Rattle.snapshot_manager.specs.Told.{entries_in, ledger_of}
-use Rattle.snapshot_manager.specs.Courses.{AddsOwn}
+use Rattle.session_sources.specs.Courses.{AddsOwn}
 use Rattle.afl_session.specs.Acts.{acts_for, acts_in, begins, ends, Course}
 use Rattle.afl_session.specs.Replies.{HasFault, HasLine, IsToldFor}
 use Rattle.afl_session.specs.declared.replies.reply.Reply.{Reply}

@@ -18,8 +18,8 @@ use Rattle.snapshot_manager.specs.Start.{Start}
 use Rattle.snapshot_manager.specs.Databases.{IsDatabaseOf}
 use Rattle.snapshot_manager.specs.Told.{told}
 use Rattle.snapshot_manager.specs.Seats.{ledger_seen, seen, start}
-use Rattle.snapshot_manager.specs.declared.sources.reading.Reading.{Reading}
-use Rattle.snapshot_manager.specs.Pinned.{pinned_state}
+use Rattle.session_sources.specs.declared.reading.Reading.{Reading}
+use Rattle.session_sources.specs.Pinned.{pinned_state}
 use Rattle.afl_session.specs.Said.{IsSaid}
 
 -- an outcome is that of a statement over a source with these names

@@ -15,8 +15,8 @@ use Rattle.store_state.specs.Calls.{database_with}
 use Rattle.store_state.specs.Standings.{BeganAs}
 use Rattle.snapshot_manager.specs.Seats.{ledger_seen, seen, start, store_seen}
 use Rattle.afl_session.specs.Replies.{Says, SaysChange}
-use Rattle.snapshot_manager.specs.declared.sources.reading.Reading.{Reading}
-use Rattle.snapshot_manager.specs.Pinned.{pinned_state, unread, HasRead}
+use Rattle.session_sources.specs.declared.reading.Reading.{Reading}
+use Rattle.session_sources.specs.Pinned.{pinned_state, unread, HasRead}
 use Rattle.afl_session.specs.BehindPins.{ComesOver}
 use Rattle.afl_session.specs.Under.{WasPinned}
 

@@ -7,7 +7,7 @@ use Rattle.afl_trees.specs.declared.kind.ParseKind.{ParseKind}
 use Rattle.result_print.specs.declared.refusal.Refusal.TheVariants.{HistoryFull}
 use Rattle.afl_session.specs.Acts.{acts_for, acts_in, Course}
 use Rattle.afl_session.specs.Answered.{BeganAt, IsStopReply}
-use Rattle.snapshot_manager.specs.Courses.{AddsOwn}
+use Rattle.session_sources.specs.Courses.{AddsOwn}
 use Rattle.store_state.specs.declared.state.event.Event.{Event}
 use Rattle.afl_session.specs.Refusals.{IsWantBetween}
 use Rattle.afl_session.specs.Replies.{HadNoRoom, HasLine, IsToldFor}

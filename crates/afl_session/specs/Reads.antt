@@ -10,7 +10,7 @@ use Rattle.event_core.specs.declared.entry.Entry.TheVariants.{Pin}
 use Rattle.logical_plan.specs.declared.names.Names.{Names}
 use Rattle.plan_changes.specs.Databases.{Database}
 use Rattle.statement_replies.specs.Outcomes.{all_asked, rows_put_by}
-use Rattle.snapshot_manager.specs.Stored.{numbers_at, schema_of, AreRowsAfter}
+use Rattle.session_sources.specs.Stored.{numbers_at, schema_of, AreRowsAfter}
 use Rattle.store_state.specs.declared.state.event.Event.{Event}
 use Rattle.store_state.specs.Calls.{database_with, history_at}
 use Rattle.store_state.specs.Standings.{BeganAs}

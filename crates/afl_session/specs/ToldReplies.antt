@@ -17,9 +17,9 @@ use Rattle.afl_session.specs.Acts.{looking}
 use Rattle.afl_session.specs.Refusals.{IsUnreadReply}
 use Rattle.afl_session.specs.Replies.{names_before, words_of, BeganAsNone, HasFault, HasLine, HoldsBehindPin, HoldsWhereRefused, IsDamagedPage, IsToldFor}
 use Rattle.afl_session.specs.declared.replies.reply.Reply.{Reply}
-use Rattle.snapshot_manager.specs.declared.sources.reading.Reading.{Reading}
-use Rattle.snapshot_manager.specs.Courses.{AddsAtMostFault}
-use Rattle.snapshot_manager.specs.Pinned.{HasRead}
+use Rattle.session_sources.specs.declared.reading.Reading.{Reading}
+use Rattle.session_sources.specs.Courses.{AddsAtMostFault}
+use Rattle.session_sources.specs.Pinned.{HasRead}
 use Rattle.afl_session.specs.Said.{IsSaid}
 
 module _ {D : Type 0} (moment : D → Moment) (start : Start D) (session pin : ℕ) (events own : List Event) (text : List ℕ) (tree : Term) (reply : Reply) where

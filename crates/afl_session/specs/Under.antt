@@ -14,9 +14,9 @@ use Rattle.snapshot_manager.specs.Seats.{ledger_seen, seen, session_of, start}
 use Rattle.afl_session.specs.Refusals.{IsUnreadReply}
 use Rattle.afl_session.specs.Replies.{words_of}
 use Rattle.afl_session.specs.declared.replies.reply.Reply.{Reply}
-use Rattle.snapshot_manager.specs.declared.sources.reading.Reading.{Reading}
-use Rattle.snapshot_manager.specs.Courses.{AddsAtMostFault}
-use Rattle.snapshot_manager.specs.Pinned.{pinned_state, unread, HasRead}
+use Rattle.session_sources.specs.declared.reading.Reading.{Reading}
+use Rattle.session_sources.specs.Courses.{AddsAtMostFault}
+use Rattle.session_sources.specs.Pinned.{pinned_state, unread, HasRead}
 use Rattle.afl_session.specs.BehindPins.{ComesOver, HasDatabaseAt}
 use Rattle.afl_session.specs.ToldReplies.{IsLookedReply}
 

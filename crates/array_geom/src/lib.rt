@@ -7,6 +7,7 @@ mod cores;
 mod frames;
 mod grid;
 mod laws;
+mod letting;
 mod margins;
 
 pub use array_rows::{
@@ -21,4 +22,5 @@ pub use grid::{Grid, Lengths};
 pub use laws::{
     boxes_hold_coordinates, chunks_are_one_array, cores_are_parts, position_and_place_are_inverse,
 };
+pub use letting::let_go_changed;
 pub use margins::margins_of;

@@ -57,7 +57,6 @@ impl Code {
 }
 
 /// A value of an attribute.
-#[derive(Drop)]
 pub enum Datum {
     /// Null without a reason, which counts as code 0.
     Null,
@@ -67,6 +66,19 @@ pub enum Datum {
     Text(Bytes),
     Truth(bool),
     Bad(FaultKind),
+}
+
+impl Drop for Datum {
+    fn drop(self) {
+        match self {
+            Datum::Null => {}
+            Datum::Missing(_) => {}
+            Datum::Int(_) => {}
+            Datum::Text(_) => {}
+            Datum::Truth(_) => {}
+            Datum::Bad(_) => {}
+        }
+    }
 }
 
 /// What an array holds at a coordinate.

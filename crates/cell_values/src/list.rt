@@ -24,9 +24,14 @@ pub trait Copies {
 }
 
 /// A `Vec` that contracts see as the list of its items. It keeps the allocator with which it was made.
-#[derive(Drop)]
 pub struct List<T> {
     items: Vec<T>,
+}
+
+impl<T: Drop> Drop for List<T> {
+    fn drop(self) {
+        let List { items: _ } = self;
+    }
 }
 
 impl<T> Model for List<T> {

@@ -14,9 +14,15 @@ pub struct Span {
 }
 
 /// A name: 1 to 64 bytes, a letter or `_` and then letters, digits and `_`, and no reserved word.
-#[derive(Drop, PartialEq, Eq, PartialOrd, Ord)]
+#[derive(PartialEq, Eq, PartialOrd, Ord)]
 pub struct Name {
     bytes: Bytes,
+}
+
+impl Drop for Name {
+    fn drop(self) {
+        let Name { bytes: _ } = self;
+    }
 }
 
 impl Model for Name {

@@ -12,7 +12,6 @@ pub enum Kind {
     Bool,
 }
 
-#[derive(Drop)]
 pub struct Attribute {
     pub name: Name,
     pub kind: Kind,
@@ -20,8 +19,17 @@ pub struct Attribute {
     pub nullable: bool,
 }
 
+impl Drop for Attribute {
+    fn drop(self) {
+        let Attribute {
+            name: _,
+            kind: _,
+            nullable: _,
+        } = self;
+    }
+}
+
 /// A dimension with the places `lo` to `hi`, cut into chunks.
-#[derive(Drop)]
 pub struct Dimension {
     pub name: Name,
     pub lo: i64,
@@ -33,10 +41,30 @@ pub struct Dimension {
     pub overlap: u64,
 }
 
-#[derive(Drop)]
+impl Drop for Dimension {
+    fn drop(self) {
+        let Dimension {
+            name: _,
+            lo: _,
+            hi: _,
+            chunk: _,
+            overlap: _,
+        } = self;
+    }
+}
+
 pub struct Schema {
     pub attributes: List<Attribute>,
     pub dimensions: List<Dimension>,
+}
+
+impl Drop for Schema {
+    fn drop(self) {
+        let Schema {
+            attributes: _,
+            dimensions: _,
+        } = self;
+    }
 }
 
 /// A box of coordinates, both corners included. Where some `lo` is above its `hi`, it holds none.
@@ -87,6 +115,18 @@ impl Copies for Dimension {
 }
 
 impl Schema {
+    /// The attributes and the dimensions.
+    pub fn into_parts(self) -> (List<Attribute>, List<Dimension>)
+        ensures attributes { result.0 ≡ self.attributes }
+        ensures dimensions { result.1 ≡ self.dimensions }
+    {
+        let Schema {
+            attributes,
+            dimensions,
+        } = self;
+        (attributes, dimensions)
+    }
+
     /// An equal schema.
     pub fn copy(&self) -> Result<Schema, Memory>
         ensures { IfOk result (λ copy. copy ≡ self.now) }

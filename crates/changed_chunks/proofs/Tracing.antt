@@ -16,7 +16,7 @@ use Rattle.chunk_source.specs.Source.{Keeps, Reads, SourceState, version_chunks}
 use Rattle.chunk_source.proofs.ReadLemmas.{keeps_on, keeps_still, reads_still}
 use Rattle.changed_chunks.specs.declared.traces.asking.Asking.{Asking}
 use Rattle.changed_chunks.specs.Inner.Among.{AddsLines, lines_by}
-use Rattle.leaf_parts.proofs.SufficientLaws.{whole_needs}
+use Rattle.chunk_source.proofs.SufficientLaws.{whole_needs}
 use Rattle.plan_needs.specs.Wanted.{whole_need}
 use Rattle.changed_chunks.specs.Listed.{chunks_among}
 use Rattle.changed_chunks.specs.Traced.{AreLinesOf, asking_in, asking_over, asking_where, askings_over, leaf_line, lines_of, lines_over, plan_askings, plan_lines}

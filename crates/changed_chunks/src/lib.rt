@@ -5,6 +5,7 @@ mod chunks;
 mod letting;
 mod traces;
 
+pub use array_geom::let_go_changed;
 pub use chunks::changed;
-pub use letting::{let_go_array, let_go_changed};
+pub use letting::let_go_array;
 pub use traces::{Asking, count_chunks, plan_lines, write_line};

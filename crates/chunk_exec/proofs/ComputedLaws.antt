@@ -27,10 +27,10 @@ use Rattle.chunk_source.specs.declared.sources.asked.Asked.{Asked}
 use Rattle.chunk_source.specs.Source.{SourceState, AsksFront, HasArray, Keeps, Reads, asks, version_chunks, listed as chunks_listed}
 use Rattle.chunk_source.specs.declared.reading.fault.ExecFault.{ExecFault}
 use Rattle.chunk_source.proofs.ReadLemmas.{asked_all, asked_none, listed_still, on_err, reads_still}
-use Rattle.leaf_parts.specs.Known.{IsPartIn, known_for}
-use Rattle.leaf_parts.specs.Read.{IsRead}
-use Rattle.leaf_parts.specs.Numbered.{HoldsAll, known_of_leaves, numbered}
-use Rattle.leaf_parts.proofs.NumberedLaws.{holds_parts}
+use Rattle.chunk_source.specs.Known.{IsPartIn, known_for}
+use Rattle.chunk_source.specs.Read.{IsRead}
+use Rattle.chunk_source.specs.Numbered.{HoldsAll, known_of_leaves, numbered}
+use Rattle.chunk_source.proofs.NumberedLaws.{holds_parts}
 use Rattle.chunk_exec.specs.Computed.{CanCompute, IsComputed, IsGiven, asked_in_boxes}
 use Rattle.chunk_exec.specs.Inner.Operated.{sources, IsResultOf, operated}
 use Rattle.chunk_exec.proofs.SourceLaws.{leaves_of_one, leaves_of_two, typed_sources}

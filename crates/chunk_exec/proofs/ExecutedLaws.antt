@@ -24,8 +24,8 @@ use Rattle.plan_rewrite.specs.Same.{IsRewritten}
 use Rattle.chunk_source.specs.declared.reading.fault.ExecFault.{ExecFault}
 use Rattle.chunk_source.specs.declared.sources.asked.Asked.{Asked}
 use Rattle.chunk_source.specs.Source.{SourceState, AsksFront, Reads, listed as chunks_listed}
-use Rattle.leaf_parts.specs.Numbered.{HoldsAll, by_number, known_of_leaves}
-use Rattle.leaf_parts.proofs.SufficientLaws.{holds_behind, suffices}
+use Rattle.chunk_source.specs.Numbered.{HoldsAll, by_number, known_of_leaves}
+use Rattle.chunk_source.proofs.SufficientLaws.{holds_behind, suffices}
 use Rattle.chunk_exec.specs.Computed.{CanCompute, IsComputed, asked_for_plan, asked_in_boxes}
 use Rattle.chunk_exec.proofs.ComputedLaws.{HasLeaf}
 

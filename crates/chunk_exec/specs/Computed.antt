@@ -16,7 +16,7 @@ use Rattle.logical_plan.specs.Typing.{IsTyped}
 use Rattle.plan_needs.specs.Wanted.{wanted_of, whole_need}
 use Rattle.chunk_source.specs.declared.sources.asked.Asked.{Asked}
 use Rattle.chunk_source.specs.Source.{HasArray, Reads, SourceState, asks, listed}
-use Rattle.leaf_parts.specs.Numbered.{HoldsAll, known_of_leaves, numbered}
+use Rattle.chunk_source.specs.Numbered.{HoldsAll, known_of_leaves, numbered}
 
 -- a typed plan over leaves that the source has
 pub record CanCompute (source : SourceState) (query : Query) : Type 0 where

@@ -11,6 +11,12 @@ pub use Rattle.logical_plan.specs.declared.names.Names
 pub mod Faults
 pub mod Found
 pub mod InMemory
+pub mod Inner
+pub mod Known
 pub mod Laws
+pub mod NumberLaws
+pub mod Numbered
+pub mod PartLaws
+pub mod Read
 pub mod Reading
 pub mod Source

@@ -5,12 +5,20 @@ use plan_changes::Change;
 use version_reaper::{Copies, List, Memory};
 
 /// The pages of a commit.
-#[derive(Drop)]
 pub struct Used {
     /// All pages of the new version, those that it shares with another one too.
     pub version: List<u32>,
     /// All pages of the catalogue after the commit.
     pub catalogue: List<u32>,
+}
+
+impl Drop for Used {
+    fn drop(self) {
+        let Used {
+            version: _,
+            catalogue: _,
+        } = self;
+    }
 }
 
 #[derive(Drop)]

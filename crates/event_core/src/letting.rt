@@ -1,7 +1,13 @@
 //! What is let go. That each can be let go is proved here once, and not again in each crate that calls this.
 
 use crate::{Core, Entry, Ready, Used};
+use std::snapshot::Snapshot;
 use version_reaper::List;
+
+/// Lets go what was seen. It may be anything, so that nothing of it has to be let go.
+pub fn let_go_seen<T>(seen: Snapshot<T>) {
+    drop(seen);
+}
 
 /// Lets entries go.
 pub fn let_go_entries(entries: List<Entry>) {

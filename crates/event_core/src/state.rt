@@ -5,21 +5,40 @@ use plan_changes::Names;
 use version_reaper::{Copies, List, Memory, Name};
 
 /// The pages of a version.
-#[derive(Drop)]
 pub struct VersionPages {
     pub name: Name,
     pub version: u32,
     pub pages: List<u32>,
 }
 
+impl Drop for VersionPages {
+    fn drop(self) {
+        let VersionPages {
+            name: _,
+            version: _,
+            pages: _,
+        } = self;
+    }
+}
+
 /// An open pin, with what could be named when it began.
-#[derive(Drop)]
 pub struct CorePin {
     pub session: u32,
     /// The number of entries before it.
     pub place: u64,
     pub names: Names,
     pub pages: List<VersionPages>,
+}
+
+impl Drop for CorePin {
+    fn drop(self) {
+        let CorePin {
+            session: _,
+            place: _,
+            names: _,
+            pages: _,
+        } = self;
+    }
 }
 
 #[derive(Drop)]

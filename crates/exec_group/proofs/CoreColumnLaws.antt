@@ -1,5 +1,5 @@
 -- The cells of a chunk's core, by their places.
-use Rattle.std.proofs.Common.{◌≡◌, ℕ, ◌+◌, ◌<◌, ℤ, pos, Bool, List, [], ◌∷◌, ◌++◌, length, get_or, take, map, Option, Result, refl, sym, ap, ◌∙◌, arith}
+use Rattle.std.proofs.Common.{◌≡◌, ℕ, ◌+◌, ◌<◌, ◌≤◌, ℤ, pos, Bool, List, [], ◌∷◌, ◌++◌, length, get_or, take, map, Option, Result, refl, sym, ap, ◌∙◌, arith}
 use Rattle.std.proofs.lemmas.List.{map-append, take_more}
 use Rattle.std.specs.Prelude.{IfOk, IfSome}
 use Rattle.cell_values.specs.declared.datum.Cell.{Cell}
@@ -15,7 +15,9 @@ use Rattle.group_rows.specs.declared.rows.groups.Groups.{Groups}
 use Rattle.group_rows.specs.Grouped.{AreGroupsOf}
 use Rattle.group_rows.specs.Inner.Columns.{are_inside}
 use Rattle.group_rows.specs.Inner.Keys.{aggregate_sets}
-use Rattle.group_rows.specs.Sets.{one_set}
+use Rattle.group_rows.specs.Sets.{one_set, sets_by}
+use Rattle.logical_plan.specs.BoxOps.{numbers_at}
+use Rattle.std.specs.List.{AllByRecursion}
 
 pub cells_again : (low : List ℤ) (lengths positions : List ℕ) (cells : List Cell) → length cells ≡ length positions → cells_of (rows_in low lengths positions cells) ≡ cells
 cells_again low lengths [] [] e = refl
@@ -44,3 +46,12 @@ pub one_in_core : (places : List ℕ) (gs : List Aggregate) (rows : List Row) (r
     → IfOk r (λ found. IfSome found (λ part. AreGroupsOf gs (one_set (pos 0 ∷ []) rows) part.groups)) → IfOk r (λ found. IfSome found (λ part. AreGroupsOf gs (aggregate_sets places rows) part.groups))
 one_in_core [] gs rows r l h = h
 one_in_core (place ∷ places) gs rows r l h = absurd (omega (arith, l))
+
+-- with names they are in the groups of these
+pub named_sets : (places : List ℕ) (rows : List Row) → 1 ≤ length places → sets_by (numbers_at places) rows ≡ aggregate_sets places rows
+named_sets [] rows l = absurd (omega (arith, l))
+named_sets (place ∷ places) rows l = refl
+
+pub all_weaker : {A : Type 0} (P Q : A → Type 0) (xs : List A) → ((x : A) → P x → Q x) → AllByRecursion P xs → AllByRecursion Q xs
+all_weaker P Q [] f h = tt
+all_weaker P Q (x ∷ xs) f h = (f x h.0, all_weaker P Q xs f h.1)

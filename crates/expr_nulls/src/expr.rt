@@ -19,9 +19,14 @@ pub enum ArithOp {
 
 /// An expression over the values and the coordinate of a cell. Contracts see it as an `Expr`, without its boxes.
 #[cycle(expr)]
-#[derive(Drop)]
 pub struct TypedExpr {
     pub node: ExprNode,
+}
+
+impl Drop for TypedExpr {
+    fn drop(self) {
+        let TypedExpr { node: _ } = self;
+    }
 }
 
 #[cycle(expr)]

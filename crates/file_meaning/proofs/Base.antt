@@ -14,7 +14,7 @@ use Rattle.version_catalog.specs.declared.rules.catalog.Catalog.{Catalog}
 use Rattle.version_catalog.specs.Spelling.{spelling}
 use Rattle.version_catalog.specs.Table.{catalog_in}
 use Rattle.version_catalog.proofs.RuleLaws.{catalog_again}
-use Rattle.catalog_changes.specs.Changed.{after_change}
+use Rattle.version_catalog.specs.Changed.{after_change}
 use Rattle.file_meaning.specs.Opening.{blamed, Rules, rows_in, found_in, sequence_of, catalogue_pages, stored_pages, pages_of}
 use Rattle.file_meaning.specs.declared.meaning.found.Found.{Found}
 use Rattle.file_meaning.proofs.Steps.{then_is}

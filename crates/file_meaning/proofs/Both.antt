@@ -21,8 +21,8 @@ use Rattle.plan_changes.proofs.DatabaseLaws.{changes_keep_databases}
 use Rattle.version_catalog.specs.declared.rules.catalog.CatalogArray.{CatalogArray}
 use Rattle.version_catalog.specs.declared.rules.catalog.Catalog.{Catalog}
 use Rattle.version_catalog.specs.Catalogs.{names_in}
-use Rattle.catalog_changes.specs.Changed.{has_its_directory, changed, after_change}
-use Rattle.catalog_changes.proofs.DirectoryLaws.{follow_databases}
+use Rattle.version_catalog.specs.Changed.{has_its_directory, changed, after_change}
+use Rattle.version_catalog.proofs.DirectoryLaws.{follow_databases}
 use Rattle.file_meaning.specs.Slots.{Slots}
 use Rattle.file_meaning.specs.Opening.{are_pages, Rules, rows_in, found_in, sequence_of, stored_pages, pages_of}
 use Rattle.file_meaning.specs.Standing.{HoldsVersions, HoldsDatabase}

@@ -6,7 +6,7 @@ use Rattle.page_chain.specs.Places.{IsNone}
 use Rattle.chunk_map.specs.declared.directory.Directory.{Directory}
 use Rattle.chunk_map.specs.Entries.{AreRising}
 use Rattle.version_catalog.specs.declared.rules.catalog.CatalogArray.{CatalogArray}
-use Rattle.catalog_changes.specs.Records.{entries_of, is_array, from_version}
+use Rattle.version_catalog.specs.Records.{entries_of, is_array, from_version}
 use Rattle.file_meaning.specs.Opening.{Rules, Row, row_in, rows_in}
 use Rattle.file_meaning.proofs.Steps.{then_is}
 use Rattle.file_meaning.proofs.Parts.{front_all, rest_all}

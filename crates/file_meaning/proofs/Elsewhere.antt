@@ -25,7 +25,7 @@ use Rattle.version_catalog.specs.declared.rules.catalog.BlobAt.{BlobAt}
 use Rattle.version_catalog.specs.declared.rules.catalog.CatalogArray.{CatalogArray}
 use Rattle.version_catalog.specs.declared.rules.catalog.Catalog.{Catalog}
 use Rattle.version_catalog.specs.declared.rules.catalog_record.CatalogRecord.{CatalogRecord}
-use Rattle.catalog_changes.specs.Records.{after_record}
+use Rattle.version_catalog.specs.Records.{after_record}
 use Rattle.version_catalog.specs.Table.{catalog_in, record_in}
 use Rattle.file_meaning.specs.Slots.{Slots, slots_in}
 use Rattle.file_meaning.specs.Opening.{blamed, if_allowed, Logged, logged_in, claimed, are_pages, is_seen, is_entry, payload_in, payloads_in, Listed, Rules, directory_from, Row, row_in, rows_in, found_in, opened, all_of, version_pages, row_pages, stored_pages, catalogue_pages, pages_of, sequence_of, Opens}

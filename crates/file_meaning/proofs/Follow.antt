@@ -21,9 +21,9 @@ use Rattle.plan_changes.specs.Stored.{is_before, IsDatabase, NamesRise}
 use Rattle.plan_changes.proofs.NamesOf.{prefix_map, map_insert, names_depend_on_no_row}
 use Rattle.plan_changes.proofs.StoredLaws.{all_inserted, add_array, names_in}
 use Rattle.version_catalog.specs.declared.rules.catalog.CatalogArray.{CatalogArray}
-use Rattle.catalog_changes.specs.Records.{entries_of, is_array as has_its_name, with_new, with_directory}
-use Rattle.catalog_changes.specs.Changed.{changed}
-use Rattle.catalog_changes.proofs.Kept.{new_named}
+use Rattle.version_catalog.specs.Records.{entries_of, is_array as has_its_name, with_new, with_directory}
+use Rattle.version_catalog.specs.Changed.{changed}
+use Rattle.version_catalog.proofs.Kept.{new_named}
 use Rattle.file_meaning.specs.Opening.{Rules, rows_in}
 use Rattle.file_meaning.specs.Standing.{HoldsVersion, HoldsVersions}
 use Rattle.file_meaning.proofs.More.{Beside}

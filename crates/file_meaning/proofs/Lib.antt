@@ -1,10 +1,10 @@
-pub use Rattle.catalog_changes.proofs.Kept
-pub use Rattle.catalog_changes.proofs.Spelled
 pub use Rattle.plan_changes.proofs.DatabaseLaws
 pub use Rattle.plan_changes.proofs.FitLaws
 pub use Rattle.plan_changes.proofs.NamesOf
 pub use Rattle.plan_changes.proofs.Stays
 pub use Rattle.plan_changes.proofs.StoredLaws
+pub use Rattle.version_catalog.proofs.Kept
+pub use Rattle.version_catalog.proofs.Spelled
 pub mod Apart
 mod Appended
 mod Base

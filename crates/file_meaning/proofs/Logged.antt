@@ -12,7 +12,7 @@ use Rattle.version_catalog.specs.declared.rules.catalog_record.CatalogRecord.{Ca
 use Rattle.version_catalog.specs.declared.rules.catalog_record.CatalogRecord.TheVariants.{Create, First, Next, Remove, RemoveVersions}
 use Rattle.version_catalog.specs.Spelling.{spell_record}
 use Rattle.version_catalog.specs.Table.{record_in}
-use Rattle.catalog_changes.specs.Records.{is_allowed, after_record}
+use Rattle.version_catalog.specs.Records.{is_allowed, after_record}
 use Rattle.file_meaning.specs.Opening.{blamed, if_allowed, Logged, logged_in}
 use Rattle.file_meaning.proofs.Steps.{then_is}
 use Rattle.file_meaning.proofs.Elsewhere.{record_steps}

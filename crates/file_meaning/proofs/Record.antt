@@ -18,9 +18,9 @@ use Rattle.version_catalog.specs.Catalogs.{names_in}
 use Rattle.version_catalog.specs.Spelling.{spell_record}
 use Rattle.version_catalog.specs.Table.{catalog_in}
 use Rattle.version_catalog.proofs.RuleLaws.{record_again}
-use Rattle.catalog_changes.specs.Records.{is_allowed, after_record}
-use Rattle.catalog_changes.specs.Changed.{after_change}
-use Rattle.catalog_changes.proofs.DirectoryLaws.{are_allowed, do_their_change}
+use Rattle.version_catalog.specs.Records.{is_allowed, after_record}
+use Rattle.version_catalog.specs.Changed.{after_change}
+use Rattle.version_catalog.proofs.DirectoryLaws.{are_allowed, do_their_change}
 use Rattle.file_meaning.specs.Slots.{Slots}
 use Rattle.file_meaning.specs.Opening.{blamed, Logged, logged_in, Rules, rows_in, found_in, sequence_of, catalogue_pages, stored_pages, pages_of}
 use Rattle.file_meaning.specs.declared.meaning.found.Found.{Found}

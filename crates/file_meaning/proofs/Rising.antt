@@ -20,7 +20,7 @@ use Rattle.chunk_map.proofs.Moves.{IsBefore, before-trans}
 use Rattle.plan_changes.specs.Stored.{IsStored}
 use Rattle.version_catalog.specs.declared.rules.catalog.BlobAt.{BlobAt}
 use Rattle.version_catalog.specs.declared.rules.catalog.CatalogArray.{CatalogArray}
-use Rattle.catalog_changes.specs.Records.{entries_of}
+use Rattle.version_catalog.specs.Records.{entries_of}
 use Rattle.file_meaning.specs.Opening.{Listed, Rules, directory_from, Row, row_in, rows_in}
 use Rattle.file_meaning.proofs.Steps.{blamed_ok}
 use Rattle.file_meaning.proofs.Elsewhere.{directory_steps, row_steps, rows_steps}

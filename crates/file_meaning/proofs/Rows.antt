@@ -13,7 +13,7 @@ use Rattle.plan_changes.specs.NameEntry.{NameEntry}
 use Rattle.plan_changes.specs.Changes.{is_named, has_array, new_entry}
 use Rattle.version_catalog.specs.declared.rules.catalog.BlobAt.{BlobAt}
 use Rattle.version_catalog.specs.declared.rules.catalog.CatalogArray.{CatalogArray}
-use Rattle.catalog_changes.specs.Records.{entries_of, is_array, with_directory, without}
+use Rattle.version_catalog.specs.Records.{entries_of, is_array, with_directory, without}
 use Rattle.file_meaning.specs.Opening.{is_seen, Listed, Rules, directory_from, Row, row_in, rows_in, all_of, version_pages, row_pages}
 use Rattle.file_meaning.proofs.Steps.{then_is}
 use Rattle.file_meaning.proofs.Parts.{front_all, rest_all}

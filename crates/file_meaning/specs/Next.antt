@@ -9,7 +9,7 @@ use Rattle.plan_changes.specs.declared.change.Change.TheVariants.{Create, Store,
 use Rattle.plan_changes.specs.Changes.{is_named, has_array, place_of, with_absent}
 use Rattle.version_catalog.specs.declared.rules.catalog.BlobAt.{BlobAt}
 use Rattle.version_catalog.specs.Catalogs.{names_in}
-use Rattle.catalog_changes.specs.Changed.{after_change}
+use Rattle.version_catalog.specs.Changed.{after_change}
 use Rattle.file_meaning.specs.declared.meaning.found.Found.{Found}
 
 -- the directory of a new version, and where it lies

@@ -21,7 +21,7 @@ use Rattle.plan_changes.specs.Databases.{Database, after}
 use Rattle.version_catalog.specs.declared.rules.catalog_record.CatalogRecord.{CatalogRecord}
 use Rattle.version_catalog.specs.Spelling.{spell_record, spelling as catalog_spelling}
 use Rattle.version_catalog.specs.Catalogs.{names_in}
-use Rattle.catalog_changes.specs.Changed.{after_change}
+use Rattle.version_catalog.specs.Changed.{after_change}
 use Rattle.file_meaning.specs.Slots.{Slots, slots_in}
 use Rattle.file_meaning.specs.Opening.{Opens, is_seen, pages_of, sequence_of}
 use Rattle.file_meaning.specs.Standing.{Stands, HoldsPart, stored_chunk}

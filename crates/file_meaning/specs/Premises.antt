@@ -28,7 +28,7 @@ use Rattle.plan_changes.specs.Typed.{IsTypedFor}
 use Rattle.version_catalog.specs.declared.rules.catalog_record.CatalogRecord.{CatalogRecord}
 use Rattle.version_catalog.specs.Catalogs.{IsCatalog, IsRecord, names_in}
 use Rattle.version_catalog.specs.Spelling.{spell_record, spelling as catalog_spelling}
-use Rattle.catalog_changes.specs.Changed.{record_for, after_change}
+use Rattle.version_catalog.specs.Changed.{record_for, after_change}
 use Rattle.file_meaning.specs.Slots.{Slots}
 use Rattle.file_meaning.specs.Opening.{is_seen, found_in, pages_of, sequence_of}
 use Rattle.file_meaning.specs.Standing.{HoldsPart, HoldsDatabase}

@@ -1,7 +1,7 @@
 //! What is let go. That each can be let go is proved here once, and not again in each crate that calls this.
 
 use crate::meaning::Found;
-use catalog_changes::Catalog;
+use version_catalog::Catalog;
 
 /// Lets a catalogue go.
 pub fn let_go_catalog(catalog: Catalog) {

@@ -12,7 +12,7 @@ use Rattle.page_chain.specs.declared.slots.slots.slots.Slots.{Slots as FileSlots
 use Rattle.version_catalog.specs.declared.rules.catalog.Catalog.{Catalog}
 use Rattle.version_catalog.specs.declared.rules.catalog_record.CatalogRecord.{CatalogRecord}
 use Rattle.version_catalog.specs.Table.{record_in}
-use Rattle.catalog_changes.specs.Records.{after_record}
+use Rattle.version_catalog.specs.Records.{after_record}
 use Rattle.file_meaning.specs.Opening.{blamed, if_allowed, Logged, logged_in}
 use Rattle.file_reading.specs.Inner.Log.{Applies, GoesOn, behind_log, record_step}
 

@@ -44,13 +44,13 @@ has_no_fault Min place (Full vs) n e = no_bad (slice_index_or vs place Null) n e
 has_no_fault Max place (Full vs) n e = no_bad (slice_index_or vs place Null) n e
 
 -- the row at a place, and the number of its cell
-record Here (place : ℕ) (rows : List Row) (number : ℤ) (i : ℕ) : Type 0 where
-  row : Row
-  is : row ≡ get_or rows i row
-  within_rows : i < length rows
-  value : value_in place row.cell ≡ Int number
+pub record Here (place : ℕ) (rows : List Row) (number : ℤ) (i : ℕ) : Type 0 where
+  pub row : Row
+  pub is : row ≡ get_or rows i row
+  pub within_rows : i < length rows
+  pub value : value_in place row.cell ≡ Int number
 
-here : (place : ℕ) (rows : List Row) (numbers : List ℤ) (i : ℕ) (number : ℤ) → HaveNumbers place numbers (cells_of rows) → i < length numbers → number ≡ get_or numbers i (pos 0) → Here place rows number i
+pub here : (place : ℕ) (rows : List Row) (numbers : List ℤ) (i : ℕ) (number : ℤ) → HaveNumbers place numbers (cells_of rows) → i < length numbers → number ≡ get_or numbers i (pos 0) → Here place rows number i
 here place [] [] i number h l e = absurd (omega (arith, l))
 here place [] (n ∷ numbers) i number h l e = absurd (no_more h)
   where

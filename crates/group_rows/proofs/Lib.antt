@@ -5,6 +5,7 @@ pub mod KeyLaws
 pub mod KindLaws
 pub mod MergeLaws
 pub mod PartsPartLaws
+pub mod PlaceLaws
 pub mod RowLemmas
 pub mod RowsPartLaws
 pub mod StateLaws

@@ -1,23 +1,22 @@
 -- The cells of a chunk's core, and the array of all parts.
-use Rattle.std.proofs.Common.{◌≡◌, ℕ, suc, ◌≤◌, ◌^◌, ◌&&◌, IsTrue, List, [], ◌∷◌, length, refl, sym, ap, ◌∙◌, subst, arith}
-use Rattle.std.specs.List.{All, AllByRecursion, list_all}
+use Rattle.std.proofs.Common.{◌≡◌, ℕ, IsTrue, List, [], ◌∷◌, sym, ap, ◌∙◌, subst}
+use Rattle.std.specs.List.{All, AllByRecursion}
 use Rattle.std.proofs.lemmas.List.Elements.{All-from_recursion}
 use Rattle.arrayvec.specs.ArrayVec.{ArrayVec}
 use Rattle.cell_values.specs.declared.datum.Row.{Row}
 use Rattle.cell_values.specs.declared.schema.Dimension.{Dimension}
 use Rattle.cell_values.specs.declared.schema.Schema.{Schema}
-use Rattle.cell_values.specs.Schemas.{has_attributes, has_dimensions, are_distinct, names_of, is_dimension, frame_size, frame_fits, IsValid}
+use Rattle.cell_values.specs.Schemas.{IsValid}
 use Rattle.array_rows.specs.Arrays.{AreRowsOf}
 use Rattle.array_rows.specs.Boxes.{is_inside, bounds_of}
 use Rattle.array_rows.specs.Rows.{IsRising}
 use Rattle.array_rows.proofs.RowSets.{IsRising-rows_where}
 use Rattle.array_geom.specs.declared.chunk.Chunk.{Chunk}
 use Rattle.array_geom.specs.declared.chunk.ChunkedArray.{ChunkedArray}
-use Rattle.array_geom.specs.Geometry.{core, overlaps, frame_lengths, volume}
+use Rattle.array_geom.specs.Geometry.{core}
 use Rattle.array_geom.specs.Link.{chunk_rows, core_rows}
 use Rattle.array_geom.specs.Inner.Ranges.{AreNear}
-use Rattle.array_geom.proofs.NearLemmas.{valid_placed, size_is_volume}
-use Rattle.array_geom.proofs.TestLaws.{and_parts, at_most}
+use Rattle.array_geom.proofs.NearLemmas.{valid_placed}
 use Rattle.array_parts.proofs.PartLemmas.{all_kept}
 use Rattle.array_parts.specs.Cores.{HaveCells, cores_of}
 use Rattle.area_cells.specs.Whole.{CoresRise}

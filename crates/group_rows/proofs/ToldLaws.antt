@@ -27,9 +27,8 @@ use Rattle.agg_states.specs.Inner.Summary.{Summary}
 use Rattle.group_rows.specs.declared.rows.groups.Group.{Group}
 use Rattle.group_rows.specs.Counts.{cells_of as counted, cells_in}
 use Rattle.group_rows.specs.Grouped.{AreStatesOf, ComesBefore, AreInOrder, states_at, IsGroupOf, AreGroupsOf}
-use Rattle.group_rows.specs.declared.rows.groups.Groups.{Groups}
-use Rattle.group_rows.specs.Sets.{Sets, all_sets}
-use Rattle.group_rows.specs.Inner.Merging.{IsSetFor, CanBeTold}
+use Rattle.group_rows.specs.Sets.{Sets}
+use Rattle.group_rows.specs.Inner.Merging.{IsSetFor}
 use Rattle.group_rows.specs.Told.{IsTold, AreTold, IsRowOf, AreRowsOfSets}
 use Rattle.group_rows.proofs.KindLaws.{aggregate_has_kind, kinds_for}
 

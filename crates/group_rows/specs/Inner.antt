@@ -2,3 +2,4 @@ pub mod Columns
 pub mod Keys
 pub mod Merged
 pub mod Merging
+pub mod Places

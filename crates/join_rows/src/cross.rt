@@ -85,6 +85,7 @@ fn left_places(left: &List<Row>, pairs: &[Pair]) -> Result<List<u32>, Memory>
     Ok(places)
 }
 
+/// The places, in a right row, of the numbers of these pairs, pair by pair.
 pub fn right_places(right: &List<Row>, pairs: &[Pair]) -> Result<List<u32>, Memory>
     ensures { IfOk result (λ places. places ≡ right_places pairs.now) }
 {

@@ -29,6 +29,7 @@ pub(crate) fn numbers_at(places: &[u32], at: &Coord) -> Coord
     numbers
 }
 
+/// Whether a place is among these.
 pub fn is_among(places: &[u32], place: usize) -> bool
     ensures { result ≡ list_any (λ p. p == place) places.now }
 {

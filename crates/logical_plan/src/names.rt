@@ -4,7 +4,6 @@ ghost use Rattle.std.specs.Prelude.{◌≡◌, IfOk};
 use cell_values::{Copies, List, Memory, Name, Schema};
 
 /// A stored array.
-#[derive(Drop)]
 pub struct NameEntry {
     pub name: Name,
     pub schema: Schema,
@@ -12,6 +11,17 @@ pub struct NameEntry {
     pub next: u32,
     /// The numbers of its versions, rising, each below `next`.
     pub versions: List<u32>,
+}
+
+impl Drop for NameEntry {
+    fn drop(self) {
+        let NameEntry {
+            name: _,
+            schema: _,
+            next: _,
+            versions: _,
+        } = self;
+    }
 }
 
 /// The stored arrays, rising by name.

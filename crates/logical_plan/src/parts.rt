@@ -17,7 +17,6 @@ pub enum AggFunction {
 }
 
 /// An aggregate of an attribute, and the name of its result.
-#[derive(Drop)]
 pub struct Aggregate {
     pub function: AggFunction,
     /// The place of the attribute, from 0; `CountAll` does not look at it.
@@ -25,8 +24,17 @@ pub struct Aggregate {
     pub name: Name,
 }
 
+impl Drop for Aggregate {
+    fn drop(self) {
+        let Aggregate {
+            function: _,
+            attribute: _,
+            name: _,
+        } = self;
+    }
+}
+
 /// A version of a stored array.
-#[derive(Drop)]
 pub struct Leaf {
     pub name: Name,
     /// From 1; 0 stands for an array without versions, which has no cells.
@@ -34,12 +42,31 @@ pub struct Leaf {
     pub schema: Schema,
 }
 
+impl Drop for Leaf {
+    fn drop(self) {
+        let Leaf {
+            name: _,
+            version: _,
+            schema: _,
+        } = self;
+    }
+}
+
 /// An attribute with the value of an expression.
-#[derive(Drop)]
 pub struct Applied {
     pub name: Name,
     pub kind: Kind,
     pub value: TypedExpr,
+}
+
+impl Drop for Applied {
+    fn drop(self) {
+        let Applied {
+            name: _,
+            kind: _,
+            value: _,
+        } = self;
+    }
 }
 
 /// A dimension held at a number.

@@ -12,9 +12,14 @@ use std::marker::Model;
 /// A plan. Contracts see it as a `Query`, without its boxes. Attributes and dimensions of a source are named by their
 /// places, from 0.
 #[cycle(plan)]
-#[derive(Drop)]
 pub struct Plan {
     pub node: PlanNode,
+}
+
+impl Drop for Plan {
+    fn drop(self) {
+        let Plan { node: _ } = self;
+    }
 }
 
 #[cycle(plan)]

@@ -14,10 +14,7 @@ use std::alloc::Global;
 fn with_applied(source: Schema, values: &List<Applied>) -> Result<Schema, Memory>
     ensures { IfOk result (λ schema. schema ≡ apply_schema values.now source) }
 {
-    let Schema {
-        mut attributes,
-        dimensions,
-    } = source;
+    let (mut attributes, dimensions) = source.into_parts();
     for value in values.as_slice() {
         attributes.push(derived_attribute(&value.name, value.kind)?)?;
     }
@@ -30,9 +27,11 @@ fn with_applied(source: Schema, values: &List<Applied>) -> Result<Schema, Memory
 fn projection(source: Schema, places: &List<u32>) -> Result<Schema, Memory>
     ensures { IfOk result (λ schema. schema ≡ project_schema places.now source) }
 {
+    let attributes = at_places(&source.attributes, places)?;
+    let (_, dimensions) = source.into_parts();
     Ok(Schema {
-        attributes: at_places(&source.attributes, places)?,
-        dimensions: source.dimensions,
+        attributes,
+        dimensions,
     })
 }
 
@@ -47,8 +46,9 @@ pub fn schema_of_part(source: Schema, area: &Bounds) -> Result<Schema, Memory>
         area.lo.as_slice(),
         area.hi.as_slice(),
     )?;
+    let (attributes, _) = source.into_parts();
     Ok(Schema {
-        attributes: source.attributes,
+        attributes,
         dimensions: parts,
     })
 }
@@ -57,9 +57,11 @@ pub fn schema_of_part(source: Schema, area: &Bounds) -> Result<Schema, Memory>
 pub fn schema_of_slice(source: Schema, fixed: &List<Fixed>) -> Result<Schema, Memory>
     ensures { IfOk result (λ schema. schema ≡ slice_schema fixed.now source) }
 {
+    let dimensions = free_dimensions(&source.dimensions, fixed)?;
+    let (attributes, _) = source.into_parts();
     Ok(Schema {
-        dimensions: free_dimensions(&source.dimensions, fixed)?,
-        attributes: source.attributes,
+        attributes,
+        dimensions,
     })
 }
 
@@ -77,9 +79,11 @@ fn regrid(source: Schema, sizes: &List<u64>, aggregates: &List<Aggregate>) -> Re
 fn window(source: Schema, aggregates: &List<Aggregate>) -> Result<Schema, Memory>
     ensures { IfOk result (λ schema. schema ≡ window_schema aggregates.now source) }
 {
+    let attributes = attributes_of_aggregates(&source.attributes, aggregates)?;
+    let (_, dimensions) = source.into_parts();
     Ok(Schema {
-        attributes: attributes_of_aggregates(&source.attributes, aggregates)?,
-        dimensions: source.dimensions,
+        attributes,
+        dimensions,
     })
 }
 

@@ -7,7 +7,7 @@ use Rattle.page_chain.specs.declared.slots.slots.slots.Target.{Target}
 use Rattle.page_chain.specs.declared.slots.slots.slots.Target.TheVariants.{Root, Record}
 use Rattle.plan_changes.specs.declared.change.Change.{Change}
 use Rattle.version_catalog.specs.declared.rules.catalog.Catalog.{Catalog}
-use Rattle.catalog_changes.specs.Changed.{IsItsBlob}
+use Rattle.version_catalog.specs.Changed.{IsItsBlob}
 use Rattle.page_file.specs.Commits.{IsBlobSized, IsChainSized}
 use Rattle.store_state.specs.Laid.{Laid}
 use Rattle.store_state.specs.Written.{Written}

@@ -11,7 +11,7 @@ use Rattle.plan_changes.specs.Kept.{StoresArray}
 use Rattle.plan_changes.specs.Stored.{HasItsNames}
 use Rattle.plan_changes.specs.Typed.{IsTypedFor}
 use Rattle.version_reaper.specs.PageSets.{holds}
-use Rattle.catalog_changes.specs.Changed.{IsItsBlob}
+use Rattle.version_catalog.specs.Changed.{IsItsBlob}
 use Rattle.event_core.specs.declared.entry.Entry.TheVariants.{Commit}
 use Rattle.event_core.specs.Allowed.{allows}
 use Rattle.event_core.specs.Apart.{SharesOwn}

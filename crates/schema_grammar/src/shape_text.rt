@@ -7,12 +7,21 @@ use afl_lexer::{Copies, List, Memory, Name, Span};
 pub(crate) const UNBOUNDED: i64 = 4611686018427387903;
 
 /// A schema's syntax tree: each name, type's word and number with its place in the text.
-#[derive(Drop)]
 pub struct SchemaText {
     pub attributes: List<AttrText>,
     pub dimensions: List<DimText>,
     /// From `[` to `]`.
     pub brackets: Span,
+}
+
+impl Drop for SchemaText {
+    fn drop(self) {
+        let SchemaText {
+            attributes: _,
+            dimensions: _,
+            brackets: _,
+        } = self;
+    }
 }
 
 /// An attribute as it is written, as `v: int64 not null`. An absent `null` is kept as a written one.
@@ -28,7 +37,6 @@ pub struct AttrText {
 
 /// A dimension as it is written, as `x=-5:*,100,2`. The high bound `*` is kept as its number, 4611686018427387903.
 /// A bound's span includes its sign.
-#[derive(Drop)]
 pub struct DimText {
     pub name: Name,
     pub name_span: Span,
@@ -40,6 +48,23 @@ pub struct DimText {
     pub chunk_span: Span,
     pub overlap: u64,
     pub overlap_span: Span,
+}
+
+impl Drop for DimText {
+    fn drop(self) {
+        let DimText {
+            name: _,
+            name_span: _,
+            lo: _,
+            lo_span: _,
+            hi: _,
+            hi_span: _,
+            chunk: _,
+            chunk_span: _,
+            overlap: _,
+            overlap_span: _,
+        } = self;
+    }
 }
 
 impl AttrText {

@@ -1,14 +1,10 @@
 pub use Rattle.array_store.proofs.Databases
+pub use Rattle.array_store.proofs.Ended
 pub use Rattle.array_store.proofs.FreshChanges
+pub use Rattle.array_store.proofs.Notes
 pub use Rattle.array_store.proofs.Sights
 pub use Rattle.array_store.proofs.Telling
 pub use Rattle.array_store.proofs.TriedTurns
 pub use Rattle.array_store.proofs.Turning
-pub mod Answering
-pub mod CourseLaws
 pub mod Damages
-pub mod HeldSteps
-pub mod NoteSteps
-pub mod PinnedSteps
 pub mod Seating
-pub mod VersionLaws

@@ -1,16 +1,15 @@
 -- Seats that are given out, and that come back.
-use Rattle.std.proofs.Common.{◌≡◌, ◌∙◌, ℕ, zero, suc, ◌+◌, List, [], ◌∷◌, ◌++◌, length, drop, remove, slice_get, Some, refl, ap, sym, subst, drop-drop}
+use Rattle.std.proofs.Common.{◌≡◌, ◌∙◌, ℕ, zero, suc, ◌+◌, ◌-◌, ◌<◌, List, [], ◌∷◌, ◌++◌, All, length, length-append, length-drop, arith, drop, remove, slice_get, Some, refl, ap, sym, subst, drop-drop}
 use Rattle.std.specs.List.{list_all}
 use Rattle.std.proofs.lemmas.Option.{slice_get_within, get_or_from_slice_get}
-use Rattle.turn_lock.specs.Seats.{AreNewSeats as AreNewTurnSeats, IsNewSeat as IsNewTurnSeat, claim_of}
-use Rattle.turn_lock.specs.declared.turns.view.Claim.{Claim}
+use Rattle.turn_lock.specs.Seats.{AreNewSeats as AreNewTurnSeats, IsNewSeat as IsNewTurnSeat}
 use Rattle.turn_lock.specs.declared.turns.seat.LockSeat.{LockSeat}
 use Rattle.turn_lock.proofs.Gathering.{places_more}
 use Rattle.array_store.specs.Event.{Event}
 use Rattle.array_store.specs.StoreParts.{StoreParts}
 use Rattle.snapshot_manager.specs.declared.seat.Seat.{Seat}
 use Rattle.snapshot_manager.specs.declared.shared.Shared.{Shared}
-use Rattle.snapshot_manager.specs.Seats.{AreNewSeats, IsNewSeat}
+use Rattle.snapshot_manager.specs.Seats.{AreIdleSeats, AreNewSeats, IsIdleAt, IsNewSeat}
 use Rattle.array_store.specs.Told.{entries_in, is_sealed}
 
 module _ {A : Type 0} where
@@ -23,12 +22,15 @@ module _ {A : Type 0} where
   pub first_of_rest : (xs ys : List A) (n : ℕ) (x : A) → ys ≡ drop n xs → slice_get ys 0 ≡ Some x → slice_get xs n ≡ Some x
   first_of_rest xs ys n x is e = sym (get_dropped xs n) ∙ ap (λ l. slice_get l 0) (sym is) ∙ e
 
+  -- something is left of a list of which not all is taken from the front
+  pub some_left : (xs ys : List A) (n : ℕ) → ys ≡ drop n xs → n < length xs → 0 < length ys
+  some_left xs ys n is near = subst (λ l. 0 < length l) (sym is) (subst (λ k. 0 < k) (sym (length-drop n xs)) (let m : ℕ = length xs in let g : 0 < m - n = omega arith in g))
+
+  pub shorter : (xs ys : List A) (a : A) → xs ≡ ys ++ a ∷ [] → length ys < length xs
+  shorter xs ys a e = subst (λ l. length ys < length l) (sym e) (subst (λ k. length ys < k) (sym (length-append ys (a ∷ []))) (let n : ℕ = length ys in let g : n < n + 1 = omega arith in g))
+
   pub less_one : (xs ys zs : List A) (n : ℕ) → ys ≡ drop n xs → zs ≡ remove ys 0 → zs ≡ drop (n + 1) xs
   less_one xs ys zs n is e = e ∙ ap (drop 1) is ∙ drop-drop 1 n xs
-
--- a seat's session, with what the seat has seen
-abbrev pub seat_claim : {D : Type 0} → Seat D → Claim Event
-seat_claim seat = claim_of seat.turn_seat
 
 module _ {D : Type 0} (shared : Shared D) where
   new_turn_seat : (seats : List (LockSeat (StoreParts D) Event)) (n : ℕ) (seat : LockSeat (StoreParts D) Event) → AreNewTurnSeats shared.lock seats → slice_get seats n ≡ Some seat →
@@ -57,3 +59,7 @@ module _ {D : Type 0} (shared : Shared D) where
       subst (AreNewSeats shared) (sym e)
       (places_more (IsNewSeat shared) made (record { turn_seat = seat; entries = 0; last = 0; reads = 0 }) new
       (subst (λ (k : ℕ). IsNewSeat shared k (record { turn_seat = seat; entries = 0; last = 0; reads = 0 })) (sym count) (wrapped n seat (new_turn_seat seats n seat are at))))
+
+  -- idle seats of a shared store are idle seats of its lock
+  pub idle_at : (seats : List (Seat D)) → AreIdleSeats shared seats → All (IsIdleAt shared.lock) seats
+  idle_at seats all k other near = let seat = all k other near in (seat.0.here, seat.1)

@@ -14,6 +14,6 @@ pub use laws::{
 };
 pub use listings::{accepted_reply, list_reply, show_reply, versions_reply};
 pub use queries::{answer_query, reply_to_query};
-pub use replies::{Reply, refuse};
+pub use replies::{Reply, let_go_reply, refuse};
 pub use style::Style;
 pub use traces::change_lines;

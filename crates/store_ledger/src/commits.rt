@@ -11,8 +11,10 @@ ghost use Rattle.store_ledger.specs.Ledger.{has_room, history, with_entries};
 
 use crate::Ledger;
 use cell_values::Memory;
+use event_core::let_go_used;
+use plan_changes::let_go_change;
 use std::marker::Model;
-use store_versions::{Change, Entry, LeanReady, Used};
+use store_versions::{Change, Entry, LeanReady, Used, let_go_lean_ready};
 
 /// A commit that was made ready, with its change and its pages. Contracts see the core, the change and the pages that it was made for.
 #[derive(Drop)]
@@ -55,8 +57,8 @@ impl ReadyCommit {
             change,
             used,
         } = self;
-        drop(ready);
-        drop(used);
+        let_go_lean_ready(ready);
+        let_go_used(used);
         change
     }
 }
@@ -74,8 +76,8 @@ impl Ledger {
                 used,
             }),
             Err(want) => {
-                drop(change);
-                drop(used);
+                let_go_change(change);
+                let_go_used(used);
                 Err(want)
             }
         }

@@ -8,6 +8,7 @@ ghost use Rattle.store_ledger.specs.Ledger.{history, has_room, open_place, unuse
 
 use crate::Note;
 use cell_values::{List, Memory};
+use event_core::{let_go_core, let_go_seen};
 use logical_plan::Names;
 use std::alloc::Global;
 use std::marker::Model;
@@ -58,7 +59,7 @@ impl Ledger {
         match PageSet::new(alloc, base.limit) {
             Ok(pages) => Ledger::over(alloc, base, limit, pages),
             Err(want) => {
-                drop(base);
+                let_go_core(base);
                 Err(want)
             }
         }
@@ -131,7 +132,7 @@ impl Ledger {
         ensures { result ≡ self.entries }
     {
         let Ledger {
-            base: _,
+            base,
             limit: _,
             entries,
             notes,
@@ -139,6 +140,7 @@ impl Ledger {
             reserved: _,
             pages,
         } = self;
+        let_go_seen(base);
         drop(notes);
         drop(core);
         drop(pages);

@@ -2,12 +2,6 @@
 
 use crate::Ledger;
 use event_core::let_go_entries;
-use std::snapshot::Snapshot;
-
-/// Lets go what was seen. It may be anything, so that nothing of it has to be let go.
-pub fn let_go_seen<T>(seen: Snapshot<T>) {
-    drop(seen);
-}
 
 /// Lets a ledger go.
 pub fn let_go_ledger(ledger: Ledger) {

@@ -3,16 +3,25 @@
 ghost use Rattle.std.specs.Prelude.{◌≡◌};
 ghost use Rattle.store_ledger.specs.Ledger.{is_fault, is_tried};
 
+use event_core::let_go_seen;
 use std::snapshot::Snapshot;
 use store_versions::Change;
 
 /// What a note says of its session.
-#[derive(Drop)]
 pub enum NoteKind {
     /// The device failed under its pin.
     Fault,
     /// A commit of this change was tried under its pin. The snapshot has no bytes.
     Tried(Snapshot<Change>),
+}
+
+impl Drop for NoteKind {
+    fn drop(self) {
+        match self {
+            NoteKind::Fault => {}
+            NoteKind::Tried(change) => let_go_seen(change),
+        }
+    }
 }
 
 impl NoteKind {

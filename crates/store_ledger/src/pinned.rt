@@ -3,13 +3,22 @@ use cell_values::Memory;
 use logical_plan::Names;
 
 /// An open pin.
-#[derive(Drop)]
 pub struct Pinned {
     pub session: u32,
     /// The number of its entry, from 0.
     pub place: u64,
     /// What could be named when it began.
     pub names: Names,
+}
+
+impl Drop for Pinned {
+    fn drop(self) {
+        let Pinned {
+            session: _,
+            place: _,
+            names: _,
+        } = self;
+    }
 }
 
 /// Why a session can't pin.

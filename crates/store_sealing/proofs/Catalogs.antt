@@ -9,7 +9,7 @@ use Rattle.plan_changes.specs.declared.change.Change.{Change}
 use Rattle.plan_changes.specs.declared.change.Change.TheVariants.{Create, Store, Insert, Remove, RemoveVersions}
 use Rattle.version_catalog.specs.declared.rules.catalog.BlobAt.{BlobAt}
 use Rattle.version_catalog.specs.declared.rules.catalog.Catalog.{Catalog}
-use Rattle.catalog_changes.specs.Changed.{after_change, has_its_directory}
+use Rattle.version_catalog.specs.Changed.{after_change, has_its_directory}
 use Rattle.file_meaning.specs.Opening.{version_pages}
 use Rattle.page_file.specs.Commits.{pages_of}
 use Rattle.store_state.specs.Laid.{Laid}

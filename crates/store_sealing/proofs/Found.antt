@@ -13,7 +13,7 @@ use Rattle.plan_changes.specs.Allowed.{names_allow}
 use Rattle.version_catalog.specs.declared.rules.catalog.BlobAt.{BlobAt}
 use Rattle.version_catalog.specs.declared.rules.catalog.Catalog.{Catalog}
 use Rattle.version_catalog.specs.Catalogs.{IsCatalog, names_in}
-use Rattle.catalog_changes.specs.Changed.{after_change}
+use Rattle.version_catalog.specs.Changed.{after_change}
 use Rattle.event_core.specs.declared.entry.Entry.TheVariants.{Commit}
 use Rattle.event_core.specs.declared.entry.Used.{Used}
 use Rattle.event_core.specs.declared.state.Core.{Core}

@@ -8,9 +8,9 @@ use Rattle.plan_changes.specs.Allowed.{names_allow}
 use Rattle.plan_changes.specs.Changes.{names_after}
 use Rattle.version_catalog.specs.declared.rules.catalog.Catalog.{Catalog}
 use Rattle.version_catalog.specs.Catalogs.{IsCatalog, names_in}
-use Rattle.catalog_changes.specs.Changed.{after_change, has_its_directory}
-use Rattle.catalog_changes.proofs.Kept.{names_are_kept}
-use Rattle.catalog_changes.proofs.Spelled.{changes_keep_catalogs}
+use Rattle.version_catalog.specs.Changed.{after_change, has_its_directory}
+use Rattle.version_catalog.proofs.Kept.{names_are_kept}
+use Rattle.version_catalog.proofs.Spelled.{changes_keep_catalogs}
 use Rattle.event_core.specs.declared.entry.Used.{Used}
 use Rattle.event_core.specs.Bases.{commits}
 use Rattle.event_core.specs.History.{History, catalogue_at, names_at}

@@ -4,6 +4,7 @@
 mod first;
 mod laws;
 mod lean;
+mod letting;
 mod ready;
 mod row;
 mod table;
@@ -23,6 +24,7 @@ pub use lean::{
     pinned_pages_stay_live, ready_outlasts, reap_frees_the_rest, reap_keeps_free_pages,
     reaps_without_gain_change_nothing,
 };
+pub use letting::let_go_lean_ready;
 pub use plan_changes::Change;
 pub use ready::{ReadyVersion, Room};
 pub use row::VersionRow;

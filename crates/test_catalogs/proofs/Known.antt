@@ -5,7 +5,7 @@ use Rattle.plan_changes.specs.Allowed.{names_allow}
 use Rattle.version_catalog.specs.declared.rules.catalog.BlobAt.{BlobAt}
 use Rattle.version_catalog.specs.declared.rules.catalog.Catalog.{Catalog}
 use Rattle.version_catalog.specs.Catalogs.{names_in}
-use Rattle.catalog_changes.specs.Changed.{has_its_directory}
+use Rattle.version_catalog.specs.Changed.{has_its_directory}
 use Rattle.test_catalogs.specs.Worked.{worked_catalog}
 
 pub allows_as : (catalog : Catalog) (change known : Change) → catalog ≡ worked_catalog → change ≡ known → IsTrue (names_allow (names_in worked_catalog) known) → IsTrue (names_allow (names_in catalog) change)

@@ -29,20 +29,15 @@ pub(crate) fn put(file: &mut Bytes, place: &str, digits: &str) {
     }
 }
 
-/// Changes a file as a word says.
-fn change(file: &mut Bytes, word: &str) {
-    if let Some(count) = word.strip_prefix("..") {
-        file.truncate(number_in(count));
-    } else if let Some((place, digits)) = word.split_once(':') {
-        put(file, place, digits);
-    }
-}
-
 /// The file as some words change it.
-pub(crate) fn changed(file: &Bytes, words: &[&str]) -> Result<Bytes, Memory> {
+pub(crate) fn changed(file: &Bytes, words: &str) -> Result<Bytes, Memory> {
     let mut copy = file.copy()?;
-    for word in words {
-        change(&mut copy, word);
+    for word in words.split_whitespace() {
+        if let Some(count) = word.strip_prefix("..") {
+            copy.truncate(number_in(count));
+        } else if let Some((place, digits)) = word.split_once(':') {
+            put(&mut copy, place, digits);
+        }
     }
     Ok(copy)
 }

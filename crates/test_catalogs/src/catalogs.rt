@@ -1,11 +1,10 @@
 //! Catalogues and records.
 
-use catalog_changes::{allowed, with_record};
 use cell_values::{Bytes, Memory};
 use test_kit::{bytes_in, push_hex, push_word};
 use version_catalog::{
-    BadCatalog, Catalog, CatalogRecord, decode_catalog, decode_record, encode_catalog,
-    encode_record,
+    BadCatalog, Catalog, CatalogRecord, allowed, decode_catalog, decode_record, encode_catalog,
+    encode_record, with_record,
 };
 
 /// Adds bytes in hexadecimal digits, and lets them go.
@@ -75,39 +74,35 @@ fn push_with(out: &mut String, catalog: &Catalog, entry: &CatalogRecord) -> Resu
     push_spelling(out, spelling?)
 }
 
-/// Adds what a catalogue makes of the record that bytes spell: the catalogue after it, or whether it is allowed.
+/// Adds what a catalogue makes of a record: the catalogue after it, or whether it is allowed.
 fn push_of(
     out: &mut String,
     catalog: &Catalog,
-    bytes: &[u8],
+    entry: &CatalogRecord,
     is_applied: bool,
 ) -> Result<(), Memory> {
-    match decode_record(*out.allocator(), bytes) {
-        Ok(entry) => {
-            let told = if is_applied {
-                push_with(out, catalog, &entry)
-            } else {
-                push_word(
-                    out,
-                    if allowed(catalog, &entry) {
-                        "yes"
-                    } else {
-                        "no"
-                    },
-                )
-            };
-            drop(entry);
-            told
-        }
-        Err(bad) => push_bad(out, bad),
+    if is_applied {
+        return push_with(out, catalog, entry);
     }
+    let is_allowed = allowed(catalog, entry);
+    push_word(out, if is_allowed { "yes" } else { "no" })
 }
 
-fn push_over(out: &mut String, bytes: &[u8], entry: &[u8], is_applied: bool) -> Result<(), Memory> {
-    match decode_catalog(*out.allocator(), bytes) {
-        Ok(catalog) => {
-            let told = push_of(out, &catalog, entry, is_applied);
-            drop(catalog);
+/// Adds what a catalogue makes of the record of some digits.
+fn push_over(
+    out: &mut String,
+    catalog: &Catalog,
+    digits: &str,
+    is_applied: bool,
+) -> Result<(), Memory> {
+    let alloc = *out.allocator();
+    let bytes = bytes_in(alloc, digits)?;
+    let entry = decode_record(alloc, bytes.as_slice());
+    drop(bytes);
+    match entry {
+        Ok(entry) => {
+            let told = push_of(out, catalog, &entry, is_applied);
+            drop(entry);
             told
         }
         Err(bad) => push_bad(out, bad),
@@ -121,8 +116,12 @@ pub(crate) fn push_by(
     digits: &str,
     is_applied: bool,
 ) -> Result<(), Memory> {
-    let entry = bytes_in(*out.allocator(), digits)?;
-    let told = push_over(out, bytes, entry.as_slice(), is_applied);
-    drop(entry);
-    told
+    match decode_catalog(*out.allocator(), bytes) {
+        Ok(catalog) => {
+            let told = push_over(out, &catalog, digits, is_applied);
+            drop(catalog);
+            told
+        }
+        Err(bad) => push_bad(out, bad),
+    }
 }

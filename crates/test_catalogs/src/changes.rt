@@ -2,17 +2,16 @@
 ghost use Rattle.std.specs.Prelude.{◌≡◌, IsTrue, Some, None};
 ghost use Rattle.plan_changes.specs.Allowed.{names_allow};
 ghost use Rattle.version_catalog.specs.Catalogs.{names_in};
-ghost use Rattle.catalog_changes.specs.Changed.{has_its_directory};
+ghost use Rattle.version_catalog.specs.Changed.{has_its_directory};
 ghost use Rattle.version_catalog.specs.declared.rules.catalog.BlobAt.{BlobAt as ABlob};
 ghost use Rattle.test_catalogs.specs.Worked.{worked_catalog};
 
 use crate::changing::{blob, catalog, create, cut, insert, remove, store};
 use crate::vectors::*;
-use catalog_changes::*;
 use cell_values::{Bytes, Memory};
 use plan_changes::Change;
 use test_kit::{push_words, truth_word};
-use version_catalog::{BlobAt, Catalog, *};
+use version_catalog::{BlobAt, Catalog, encode_catalog, encode_record, record_of, with_change};
 
 /// The bytes of a change's record.
 fn recorded(catalog: &Catalog, change: &Change, directory: Option<BlobAt>) -> Result<Bytes, Memory>
@@ -89,11 +88,6 @@ fn is_written(
     told
 }
 
-fn is_start(catalog: &Catalog) -> Result<bool, Memory> {
-    let bytes = encode_catalog(catalog.arrays.allocator(), catalog)?;
-    Ok(are(bytes, &START))
-}
-
 fn is_created(catalog: &Catalog) -> Result<bool, Memory>
     requires { catalog.now ≡ worked_catalog }
 {
@@ -141,7 +135,7 @@ fn are_as_written(catalog: &Catalog) -> Result<[bool; 7], Memory>
     requires { catalog.now ≡ worked_catalog }
 {
     Ok([
-        is_start(catalog)?,
+        are(encode_catalog(catalog.arrays.allocator(), catalog)?, &START),
         is_created(catalog)?,
         is_stored_first(catalog)?,
         is_stored_next(catalog)?,
@@ -163,17 +157,13 @@ const KINDS: [&str; 7] = [
 ];
 
 /// Adds of each kind of change whether its record, and the catalogue behind it, have the bytes that were spelled by hand.
-fn push_kinds(out: &mut String, told: &[bool]) -> Result<(), Memory> {
-    for (kind, is_same) in KINDS.as_slice().iter().zip(told) {
-        push_words(out, &[*kind, ": ", truth_word(*is_same), "\n"])?;
-    }
-    Ok(())
-}
-
-/// Adds the same of the worked changes.
 pub(crate) fn push_changes(out: &mut String) -> Result<(), Memory> {
     let catalog = catalog(*out.allocator())?;
     let told = are_as_written(&catalog);
     drop(catalog);
-    push_kinds(out, told?.as_slice())
+    let told = told?;
+    for (kind, is_same) in KINDS.as_slice().iter().zip(told.as_slice()) {
+        push_words(out, &[*kind, ": ", truth_word(*is_same), "\n"])?;
+    }
+    Ok(())
 }

@@ -1,5 +1,6 @@
 //! The worked catalogue and its changes, as values.
 ghost use Rattle.std.specs.Prelude.{◌≡◌, [], ◌∷◌, IfOk};
+ghost use Rattle.event_core.specs.Worked.{worked_schema as entry_schema};
 ghost use Rattle.test_catalogs.specs.Worked.{worked_schema, blob_in, worked_catalog, stored_in, worked_insert, worked_create, worked_remove, worked_cut};
 
 use cell_values::{Attribute, Dimension, Kind, List, Memory, Name, Schema};
@@ -19,8 +20,10 @@ fn name(alloc: Global, letter: u8) -> Result<Name, Memory>
     }
 }
 
-fn attributes(alloc: Global) -> Result<List<Attribute>, Memory>
-    ensures { IfOk result (λ attributes. attributes ≡ worked_schema.attributes) }
+/// A number in each cell.
+pub(crate) fn attributes(alloc: Global) -> Result<List<Attribute>, Memory>
+    ensures changed { IfOk result (λ attributes. attributes ≡ worked_schema.attributes) }
+    ensures stored { IfOk result (λ attributes. attributes ≡ entry_schema.attributes) }
 {
     let attribute = Attribute {
         name: name(alloc, b'v')?,

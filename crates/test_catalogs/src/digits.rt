@@ -3,38 +3,36 @@
 use cell_values::{Bytes, Memory};
 use test_kit::place_in;
 
+/// The first word of a text, and what stands behind it.
+pub(crate) fn front_of(text: &str) -> (&str, &str) {
+    text.split_once(' ').unwrap_or((text, ""))
+}
+
 /// The number of a word; 0 where it is none.
 fn byte_in(word: &str) -> u8 {
     word.parse::<u8>().unwrap_or(0)
 }
 
-/// Changes bytes as a word says.
-fn change(bytes: &mut Bytes, word: &str) -> Result<(), Memory> {
-    if let Some(count) = word.strip_prefix("..") {
-        bytes.truncate(count.parse::<usize>().unwrap_or(0));
-        return Ok(());
-    }
-    if let Some(byte) = word.strip_prefix('+') {
-        return bytes.push(byte_in(byte));
-    }
-    let (place, byte) = place_in(word);
-    let place = place.unsigned_abs() as usize;
-    if place < bytes.len() {
-        bytes.set(place, byte_in(byte));
-    }
-    Ok(())
-}
-
 /// Changes bytes as some words say.
-pub(crate) fn change_all(bytes: &mut Bytes, words: &[&str]) -> Result<(), Memory> {
-    for word in words {
-        change(bytes, word)?;
+pub(crate) fn change_all(bytes: &mut Bytes, words: &str) -> Result<(), Memory> {
+    for word in words.split_whitespace() {
+        if let Some(count) = word.strip_prefix("..") {
+            bytes.truncate(count.parse::<usize>().unwrap_or(0));
+        } else if let Some(byte) = word.strip_prefix('+') {
+            bytes.push(byte_in(byte))?;
+        } else {
+            let (place, byte) = place_in(word);
+            let place = place.unsigned_abs() as usize;
+            if place < bytes.len() {
+                bytes.set(place, byte_in(byte));
+            }
+        }
     }
     Ok(())
 }
 
 /// The bytes as some words change them.
-pub(crate) fn changed(bytes: &Bytes, words: &[&str]) -> Result<Bytes, Memory> {
+pub(crate) fn changed(bytes: &Bytes, words: &str) -> Result<Bytes, Memory> {
     let mut copy = bytes.copy()?;
     change_all(&mut copy, words)?;
     Ok(copy)

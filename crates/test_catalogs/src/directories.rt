@@ -58,29 +58,19 @@ fn push_both(out: &mut String, dims: u32, old: &Directory, fresh: &Directory) ->
     push_spelling(out, spelling?)
 }
 
-fn push_over(out: &mut String, dims: u32, old: &Directory, fresh: &[u8]) -> Result<(), Memory>
+fn push_over(out: &mut String, dims: u32, old: &Directory, digits: &str) -> Result<(), Memory>
     requires some { 1 ≤ dims }
     requires few { dims ≤ 6 }
     requires old { AreRising old.now.entries }
 {
-    match directory_in(*out.allocator(), dims, fresh) {
+    let alloc = *out.allocator();
+    let bytes = bytes_in(alloc, digits)?;
+    let fresh = directory_in(alloc, dims, bytes.as_slice());
+    drop(bytes);
+    match fresh {
         Ok(fresh) => {
             let told = push_both(out, dims, old, &fresh);
             drop(fresh);
-            told
-        }
-        Err(bad) => push_bad(out, bad),
-    }
-}
-
-fn push_under(out: &mut String, dims: u32, bytes: &[u8], fresh: &[u8]) -> Result<(), Memory>
-    requires some { 1 ≤ dims }
-    requires few { dims ≤ 6 }
-{
-    match directory_in(*out.allocator(), dims, bytes) {
-        Ok(old) => {
-            let told = push_over(out, dims, &old, fresh);
-            drop(old);
             told
         }
         Err(bad) => push_bad(out, bad),
@@ -94,8 +84,13 @@ pub(crate) fn push_replaced(
     bytes: &[u8],
     digits: &str,
 ) -> Result<(), Memory> {
-    let fresh = bytes_in(*out.allocator(), digits)?;
-    let told = push_under(out, dims_in(dims), bytes, fresh.as_slice());
-    drop(fresh);
-    told
+    let dims = dims_in(dims);
+    match directory_in(*out.allocator(), dims, bytes) {
+        Ok(old) => {
+            let told = push_over(out, dims, &old, digits);
+            drop(old);
+            told
+        }
+        Err(bad) => push_bad(out, bad),
+    }
 }

@@ -5,42 +5,20 @@
 //! place, and `..20479` cuts it.
 
 use crate::bytes::{changed, put, zeros};
+use crate::digits::front_of;
 use crate::opens::push_opened;
 use cell_values::{Bytes, Memory};
-use test_kit::{begin_answer, words_of};
 
-/// Does what some words say.
-fn push_answer(out: &mut String, file: &mut Bytes, words: &[&str]) -> Result<(), Memory> {
-    match words {
-        ["pages", count] => {
-            *file = zeros(file.allocator(), count)?;
-            Ok(())
-        }
-        ["at", place, digits] => {
+/// Does what a line says, and adds its answer.
+pub(crate) fn push_kept(out: &mut String, file: &mut Bytes, line: &str) -> Result<(), Memory> {
+    let (word, operands) = front_of(line);
+    match word {
+        "pages" => *file = zeros(file.allocator(), operands)?,
+        "open" => push_opened(out, changed(file, operands)?)?,
+        _ => {
+            let (place, digits) = front_of(operands);
             put(file, place, digits);
-            Ok(())
-        }
-        ["open", changes @ ..] => push_opened(out, changed(file, changes)?),
-        _ => Ok(()),
-    }
-}
-
-fn push_lines(out: &mut String, file: &mut Bytes, text: &str) -> Result<(), Memory> {
-    for line in text.lines() {
-        if begin_answer(out, line)? {
-            let words = words_of(*out.allocator(), line)?;
-            let told = push_answer(out, file, words.as_slice());
-            drop(words);
-            told?;
         }
     }
     Ok(())
-}
-
-/// Adds the lines of a text, and their answers.
-pub(crate) fn push_kept(out: &mut String, text: &str) -> Result<(), Memory> {
-    let mut file = Bytes::new(*out.allocator());
-    let told = push_lines(out, &mut file, text);
-    drop(file);
-    told
 }

@@ -24,15 +24,15 @@ mod tell;
 mod vectors;
 mod worked;
 
-use cell_values::Memory;
+use cell_values::{Bytes, Memory};
 use changes::push_changes;
 use event_core::Core;
 use kept::push_kept;
-use spelled::push_spelled_text;
+use spelled::push_spelled;
 use std::io;
 use steps::{push_first, push_worked};
 use tell::push_core;
-use test_kit::{input, push_words};
+use test_kit::{begin_answer, input};
 use worked::start;
 
 fn push_entries_over(out: &mut String, base: &Core) -> Result<(), Memory>
@@ -51,23 +51,35 @@ fn push_entries(out: &mut String) -> Result<(), Memory> {
     told
 }
 
-/// Adds what comes of the lines of a table.
-fn push_table(out: &mut String, title: &str, text: &str) -> Result<(), Memory> {
-    match title {
-        "catalogues" => push_spelled_text(out, text),
-        "files" => push_kept(out, text),
-        "entries" => push_entries(out),
-        "changes" => push_changes(out),
-        _ => Ok(()),
-    }
+/// What the lines of a table speak of.
+#[derive(Clone, Copy)]
+enum Table {
+    Catalogues,
+    Files,
 }
 
-/// Adds the title of each table, and what comes of its lines.
-fn push_parts(out: &mut String, text: &str) -> Result<(), Memory> {
-    for part in text.split("### ") {
-        if let Some((title, lines)) = part.split_once('\n') {
-            push_words(out, &["### ", title, "\n"])?;
-            push_table(out, title, lines)?;
+/// Adds what a table without lines has behind its title. The table of the lines behind it is the answer.
+fn push_table(out: &mut String, title: &str) -> Result<Table, Memory> {
+    match title {
+        "### files" => return Ok(Table::Files),
+        "### entries" => push_entries(out)?,
+        "### changes" => push_changes(out)?,
+        _ => {}
+    }
+    Ok(Table::Catalogues)
+}
+
+/// Adds the title of each table, and what comes of its lines, which change these bytes.
+fn push_tables(out: &mut String, bytes: &mut Bytes, text: &str) -> Result<(), Memory> {
+    let mut table = Table::Catalogues;
+    for line in text.lines() {
+        if begin_answer(out, line)? {
+            match table {
+                Table::Catalogues => push_spelled(out, bytes, line)?,
+                Table::Files => push_kept(out, bytes, line)?,
+            }
+        } else if line.starts_with("### ") {
+            table = push_table(out, line)?;
         }
     }
     Ok(())
@@ -76,7 +88,10 @@ fn push_parts(out: &mut String, text: &str) -> Result<(), Memory> {
 fn main(rt: HostRuntime) -> io::Result<()> {
     let text = input(&rt)?;
     let mut out = String::new(rt.alloc());
-    match push_parts(&mut out, text.as_str()) {
+    let mut bytes = Bytes::new(rt.alloc());
+    let told = push_tables(&mut out, &mut bytes, text.as_str());
+    drop(bytes);
+    match told {
         Ok(()) => print!(rt; "{out}"),
         Err(Memory) => println!(rt; "no memory"),
     }

@@ -88,8 +88,9 @@ fn push_file<D: Disk>(out: &mut String, file: &mut PageFile<D>) -> Result<(), Me
     }
 }
 
-fn push_disk<D: Disk + Drop>(out: &mut String, disk: D) -> Result<(), Memory> {
-    match open(disk) {
+/// Adds what a file opens as.
+pub(crate) fn push_opened(out: &mut String, file: Bytes) -> Result<(), Memory> {
+    match open(disk_of(*out.allocator(), file, None)?) {
         Ok(mut file) => {
             let told = push_file(out, &mut file);
             drop(file);
@@ -97,9 +98,4 @@ fn push_disk<D: Disk + Drop>(out: &mut String, disk: D) -> Result<(), Memory> {
         }
         Err((cause, _)) => push_cause(out, cause),
     }
-}
-
-/// Adds what a file opens as.
-pub(crate) fn push_opened(out: &mut String, file: Bytes) -> Result<(), Memory> {
-    push_disk(out, disk_of(*out.allocator(), file, None)?)
 }

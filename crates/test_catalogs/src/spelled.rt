@@ -8,19 +8,14 @@
 //! one. `many 1024` makes so many arrays of the catalogue's first one, under names that rise.
 
 use crate::catalogs::{push_by, push_catalog, push_cuts, push_record};
-use crate::digits::{change_all, changed, many};
+use crate::digits::{change_all, changed, front_of, many};
 use crate::directories::{push_directory, push_replaced};
 use cell_values::{Bytes, Memory};
-use test_kit::{begin_answer, bytes_in, push_word, words_of};
+use test_kit::{bytes_in, push_word};
 
 /// Adds the spelling of what the bytes are read as where they are changed: as a catalogue, as a record, or as a directory of
 /// this number of dimensions.
-fn push_changed(
-    out: &mut String,
-    bytes: &Bytes,
-    form: &str,
-    changes: &[&str],
-) -> Result<(), Memory> {
+fn push_changed(out: &mut String, bytes: &Bytes, form: &str, changes: &str) -> Result<(), Memory> {
     let changed = changed(bytes, changes)?;
     let told = match form {
         "catalogue" => push_catalog(out, changed.as_slice()),
@@ -31,61 +26,40 @@ fn push_changed(
     told
 }
 
-/// Adds the answer to words that don't change the bytes.
-fn push_plain(out: &mut String, bytes: &[u8], words: &[&str]) -> Result<(), Memory> {
-    match words {
-        ["cuts"] => push_cuts(out, bytes),
-        ["allows", digits] => push_by(out, bytes, digits, false),
-        ["after", digits] => push_by(out, bytes, digits, true),
-        [_, dims, digits] => push_replaced(out, dims, bytes, digits),
-        _ => Ok(()),
+/// Adds the answer to a word that doesn't change the bytes, and to what stands behind it.
+fn push_told(out: &mut String, bytes: &Bytes, word: &str, behind: &str) -> Result<(), Memory> {
+    match word {
+        "cuts" => push_cuts(out, bytes.as_slice()),
+        "allows" => push_by(out, bytes.as_slice(), behind, false),
+        "after" => push_by(out, bytes.as_slice(), behind, true),
+        "directory" => {
+            let (dims, changes) = front_of(behind);
+            push_changed(out, bytes, dims, changes)
+        }
+        "replace" => {
+            let (dims, digits) = front_of(behind);
+            push_replaced(out, dims, bytes.as_slice(), digits)
+        }
+        form => push_changed(out, bytes, form, behind),
     }
 }
 
-/// Adds the answer to the words of a line.
-fn push_told(out: &mut String, bytes: &Bytes, words: &[&str]) -> Result<(), Memory> {
-    match words {
-        ["catalogue", changes @ ..] => push_changed(out, bytes, "catalogue", changes),
-        ["record", changes @ ..] => push_changed(out, bytes, "record", changes),
-        ["directory", dims, changes @ ..] => push_changed(out, bytes, dims, changes),
-        words => push_plain(out, bytes.as_slice(), words),
-    }
-}
-
-/// Adds the answer to the words of a line, or says which bytes there are.
-fn push_answer(out: &mut String, bytes: &mut Bytes, words: &[&str]) -> Result<(), Memory> {
-    match words {
-        ["bytes", digits, changes @ ..] => {
+/// Adds the answer to a line, or says which bytes there are.
+pub(crate) fn push_spelled(out: &mut String, bytes: &mut Bytes, line: &str) -> Result<(), Memory> {
+    let (word, behind) = front_of(line);
+    match word {
+        "bytes" => {
+            let (digits, changes) = front_of(behind);
             *bytes = bytes_in(bytes.allocator(), digits)?;
             change_all(bytes, changes)
         }
-        ["many", count] => {
-            *bytes = many(bytes, count)?;
+        "many" => {
+            *bytes = many(bytes, behind)?;
             Ok(())
         }
-        words => {
-            push_told(out, bytes, words)?;
+        word => {
+            push_told(out, bytes, word, behind)?;
             push_word(out, "\n")
         }
     }
-}
-
-fn push_lines(out: &mut String, bytes: &mut Bytes, text: &str) -> Result<(), Memory> {
-    for line in text.lines() {
-        if begin_answer(out, line)? {
-            let words = words_of(*out.allocator(), line)?;
-            let told = push_answer(out, bytes, words.as_slice());
-            drop(words);
-            told?;
-        }
-    }
-    Ok(())
-}
-
-/// Adds the lines of a text, and their answers.
-pub(crate) fn push_spelled_text(out: &mut String, text: &str) -> Result<(), Memory> {
-    let mut bytes = Bytes::new(*out.allocator());
-    let told = push_lines(out, &mut bytes, text);
-    drop(bytes);
-    told
 }

@@ -86,22 +86,17 @@ fn live_in(core: &Core) -> Result<PageSet, Memory> {
     set
 }
 
-/// Adds the pages of a set that stand below a limit.
-fn push_set(out: &mut String, set: &PageSet, limit: u32) -> Result<(), Memory> {
+/// Adds the pages that are live.
+fn push_live(out: &mut String, core: &Core) -> Result<(), Memory> {
     push_word(out, "live:")?;
-    for page in 1..limit {
+    let set = live_in(core)?;
+    for page in 1..core.limit {
         if set.has(page) {
             push_listed(out, &[page])?;
         }
     }
-    push_word(out, "\n")
-}
-
-fn push_live(out: &mut String, core: &Core) -> Result<(), Memory> {
-    let set = live_in(core)?;
-    let told = push_set(out, &set, core.limit);
     drop(set);
-    told
+    push_word(out, "\n")
 }
 
 pub(crate) fn push_core(out: &mut String, core: &Core) -> Result<(), Memory> {

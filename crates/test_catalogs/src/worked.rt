@@ -7,7 +7,8 @@ ghost use Rattle.plan_changes.specs.declared.change.Change.TheVariants.{Store, R
 ghost use Rattle.event_core.specs.declared.entry.Entry.TheVariants.{Commit};
 ghost use Rattle.event_core.specs.Worked.{worked_base, worked_schema, worked_store};
 
-use cell_values::{Attribute, Datum, Dimension, Kind, List, Memory, Name, Schema};
+use crate::changing::attributes;
+use cell_values::{Datum, Dimension, List, Memory, Name, Schema};
 use event_core::{Core, Entry, Used};
 use expr_nulls::TypedExpr;
 use logical_plan::{Names, Plan};
@@ -32,17 +33,6 @@ pub(crate) fn start(alloc: Global) -> Result<Core, Memory>
         limit: 16,
         entries: 0,
     })
-}
-
-fn attributes(alloc: Global) -> Result<List<Attribute>, Memory>
-    ensures { IfOk result (λ attributes. attributes ≡ worked_schema.attributes) }
-{
-    let attribute = Attribute {
-        name: name_of(alloc, b"v")?,
-        kind: Kind::Int64,
-        nullable: true,
-    };
-    one_more(List::new(alloc), attribute)
 }
 
 fn dimensions(alloc: Global) -> Result<List<Dimension>, Memory>

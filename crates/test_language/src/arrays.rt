@@ -15,16 +15,12 @@ fn row_at(alloc: Global, at: i64, text: &[u8]) -> Result<Row, Memory> {
     })
 }
 
-fn push_row(rows: &mut List<Row>, text: &str) -> Result<(), Memory> {
-    let at = i64::try_from(rows.len()).unwrap_or(0);
-    let row = row_at(rows.allocator(), at, text.as_bytes())?;
-    rows.push(row)
-}
-
 /// Adds cells with the parts of a text between each `|`.
 fn push_rows(rows: &mut List<Row>, text: &str) -> Result<(), Memory> {
-    for part in text.split('|') {
-        push_row(rows, part)?;
+    for (place, part) in text.split('|').enumerate() {
+        let at = i64::try_from(place).unwrap_or(0);
+        let row = row_at(rows.allocator(), at, part.as_bytes())?;
+        rows.push(row)?;
     }
     Ok(())
 }

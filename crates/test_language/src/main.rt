@@ -33,22 +33,17 @@ enum Table {
     Checking,
 }
 
-/// The table behind a line.
-fn table_behind(table: Table, title: &str) -> Table {
-    match title {
-        "### parsing" => Table::Parsing,
-        "### checking" => Table::Checking,
-        "### texts" => Table::Texts,
-        _ => table,
-    }
-}
-
 /// Adds a title, or what is told of another line. The table behind it is the answer.
 fn push_line(out: &mut String, table: Table, line: &[u8]) -> Result<Table, Memory> {
     if line.starts_with(b"##".as_slice()) {
         let title = from_utf8(line).unwrap_or("##");
         push_words(out, &[title, "\n"])?;
-        return Ok(table_behind(table, title));
+        return Ok(match title {
+            "### parsing" => Table::Parsing,
+            "### checking" => Table::Checking,
+            "### texts" => Table::Texts,
+            _ => table,
+        });
     }
     match table {
         Table::Texts => push_text_line(out, from_utf8(line).unwrap_or("no text"))?,

@@ -35,8 +35,9 @@ fn write_leaf(node: &Node, out: &mut String) -> Result<(), Memory> {
     }
 }
 
-/// Adds a node up to its first part.
-fn write_front(node: &Node, out: &mut String) -> Result<(), Memory> {
+/// Adds a word, and a node up to its first part.
+fn write_front(before: &str, node: &Node, out: &mut String) -> Result<(), Memory> {
+    push_word(out, before)?;
     match node {
         Node::Call(name, _) => write_behind("(", name.as_slice(), out),
         Node::As(..) => push_word(out, "(as"),
@@ -48,32 +49,23 @@ fn write_front(node: &Node, out: &mut String) -> Result<(), Memory> {
     }
 }
 
-/// Adds what stands behind the last part of a node.
-fn write_end(node: &Node, out: &mut String) -> Result<(), Memory> {
-    match node {
+/// Adds what stands behind the last part of a tree's node, and the tree's span.
+fn write_end(tree: &Tree, out: &mut String) -> Result<(), Memory> {
+    match &tree.node {
         Node::As(_, name) => {
             write_behind(" ", name.as_slice(), out)?;
-            push_word(out, ")")
+            push_word(out, ")")?;
         }
-        Node::Call(..) | Node::Not(_) | Node::Minus(_) | Node::Binary(..) => push_word(out, ")"),
-        Node::Group(_) => push_word(out, "]"),
-        _ => Ok(()),
+        Node::Call(..) | Node::Not(_) | Node::Minus(_) | Node::Binary(..) => push_word(out, ")")?,
+        Node::Group(_) => push_word(out, "]")?,
+        _ => {}
     }
-}
-
-fn write_span(tree: &Tree, out: &mut String) -> Result<(), Memory> {
-    write_end(&tree.node, out)?;
     Ok(write!(out, ":{}-{}", tree.span.start, tree.span.end)?)
-}
-
-fn write_start(before: &str, tree: &Tree, out: &mut String) -> Result<(), Memory> {
-    push_word(out, before)?;
-    write_front(&tree.node, out)
 }
 
 /// Adds the outline of a tree behind a word.
 pub(crate) fn write_outline(before: &str, tree: &Tree, out: &mut String) -> Result<(), Memory> {
-    write_start(before, tree, out)?;
+    write_front(before, &tree.node, out)?;
     match &tree.node {
         Node::Call(_, arguments) => {
             for argument in arguments {
@@ -90,5 +82,5 @@ pub(crate) fn write_outline(before: &str, tree: &Tree, out: &mut String) -> Resu
         Node::Group(inner) => write_outline("", inner, out)?,
         _ => {}
     }
-    write_span(tree, out)
+    write_end(tree, out)
 }

@@ -57,14 +57,6 @@ fn push_printed(out: &mut String, tree: &Tree) -> Result<(), Memory> {
     told
 }
 
-fn push_tree(out: &mut String, form: Form, tree: &Tree) -> Result<(), Memory> {
-    match form {
-        Form::Word => push_word(out, "ok"),
-        Form::Outline => write_outline("", tree, out),
-        Form::Print => push_printed(out, tree),
-    }
-}
-
 /// Adds what the parser answers to a text.
 fn push_parsed(out: &mut String, form: Form, text: &[u8]) -> Result<(), Memory> {
     if text.len() > LIMIT {
@@ -72,7 +64,11 @@ fn push_parsed(out: &mut String, form: Form, text: &[u8]) -> Result<(), Memory> 
     }
     match parse(*out.allocator(), text) {
         Ok(tree) => {
-            let told = push_tree(out, form, &tree);
+            let told = match form {
+                Form::Word => push_word(out, "ok"),
+                Form::Outline => write_outline("", &tree, out),
+                Form::Print => push_printed(out, &tree),
+            };
             let_go_tree(tree);
             told
         }

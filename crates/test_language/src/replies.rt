@@ -95,30 +95,24 @@ fn number_of(word: &str) -> u32 {
     word.parse::<u32>().unwrap_or(0)
 }
 
-/// The refusal of a word without a number.
-fn plain_refusal(word: &str) -> Refusal {
+/// The refusal of a text such as `full 3 1`.
+fn refusal_in(text: &str) -> Refusal {
+    let (word, counts) = text.split_once(' ').unwrap_or((text, ""));
     match word {
         "disk" => Refusal::Disk,
         "history" => Refusal::HistoryFull,
         "sequence" => Refusal::SequenceEnd,
-        _ => Refusal::Memory,
-    }
-}
-
-/// The refusal of a text such as `full 3 1`.
-fn refusal_in(text: &str) -> Refusal {
-    match text.split_once(' ') {
-        Some(("damaged", page)) => Refusal::Damaged {
-            page: number_of(page),
+        "damaged" => Refusal::Damaged {
+            page: number_of(counts),
         },
-        Some(("full", counts)) => {
+        "full" => {
             let (needed, free) = counts.split_once(' ').unwrap_or((counts, ""));
             Refusal::Full {
                 needed: number_of(needed),
                 free: number_of(free),
             }
         }
-        _ => plain_refusal(text),
+        _ => Refusal::Memory,
     }
 }
 

@@ -47,29 +47,21 @@ fn created(
     }
 }
 
-/// The array that a text creates, with these versions.
-fn stored(alloc: Global, text: &[u8], next: u32, versions: &[u32]) -> Option<NameEntry>
-    requires { length text.now ≤ 1048576 }
-    ensures { IfSome result (λ entry. IsValid entry.schema) }
-{
-    match parse(alloc, text) {
-        Ok(tree) => {
-            let entry = created(alloc, text, &tree, next, versions);
-            let_go_tree(tree);
-            entry
-        }
-        Err(_) => None,
-    }
-}
-
 /// Adds the array that a text creates.
 fn push_stored(arrays: &mut List<NameEntry>, text: &[u8], next: u32, versions: &[u32]) -> Option<()>
     requires short { length text.now ≤ 1048576 }
     requires valid { AreValid arrays.old }
     ensures { OnSome result (AreValid arrays.new) }
 {
-    let entry = stored(arrays.allocator(), text, next, versions)?;
-    arrays.push(entry).ok()
+    let alloc = arrays.allocator();
+    match parse(alloc, text) {
+        Ok(tree) => {
+            let entry = created(alloc, text, &tree, next, versions);
+            let_go_tree(tree);
+            arrays.push(entry?).ok()
+        }
+        Err(_) => None,
+    }
 }
 
 /// Adds one of many arrays.

@@ -52,25 +52,20 @@ fn push_bytes(out: &mut String, word: &str, line: &str) -> Result<(), Memory> {
     told
 }
 
-/// Adds the answer to a word, and to what stands behind it.
-fn push_named(out: &mut String, word: &str, rest: &str) -> Result<(), Memory> {
-    match word {
-        "schema" => {
-            let (from, text) = rest.split_once(' ').unwrap_or((rest, ""));
-            push_bytes(out, from, text)
-        }
-        "array" => push_array(out, rest),
-        "list" => push_list(out, rest),
-        "refusal" => push_refusal(out, rest),
-        word => push_bytes(out, word, rest),
-    }
-}
-
 /// Adds a line and its answer.
 pub(crate) fn push_text_line(out: &mut String, line: &str) -> Result<(), Memory> {
     push_words(out, &["> ", line, "\n"])?;
     if let Some((word, rest)) = line.split_once(' ') {
-        push_named(out, word, rest)?;
+        match word {
+            "schema" => {
+                let (from, text) = rest.split_once(' ').unwrap_or((rest, ""));
+                push_bytes(out, from, text)?;
+            }
+            "array" => push_array(out, rest)?,
+            "list" => push_list(out, rest)?,
+            "refusal" => push_refusal(out, rest)?,
+            word => push_bytes(out, word, rest)?,
+        }
     }
     push_word(out, "\n")
 }

@@ -8,20 +8,10 @@ use schema_grammar::schema_text;
 use std::str::from_utf8;
 use test_kit::{push_given, push_word};
 
-fn push_bytes(out: &mut String, bytes: &[u8]) -> Result<(), Memory> {
-    push_word(out, from_utf8(bytes).unwrap_or("no text"))
-}
-
 /// Adds a word and a name, with a space between.
 fn push_named(out: &mut String, word: &str, name: &Name) -> Result<(), Memory> {
-    push_word(out, word)?;
-    push_word(out, " ")?;
-    push_bytes(out, name.as_slice())
-}
-
-fn push_schema(out: &mut String, schema: &Schema) -> Result<(), Memory> {
-    let text = schema_text(*out.allocator(), schema)?;
-    push_given(out, text)
+    let name = from_utf8(name.as_slice()).unwrap_or("no text");
+    Ok(write!(out, "{word} {name}")?)
 }
 
 /// Adds versions that are read, each between these words.
@@ -32,9 +22,8 @@ fn push_leaves(
     behind: &str,
 ) -> Result<(), Memory> {
     for leaf in leaves {
-        push_word(out, before)?;
-        push_bytes(out, leaf.name.as_slice())?;
-        write!(out, "@{}{behind}", leaf.version)?;
+        let name = from_utf8(leaf.name.as_slice()).unwrap_or("no text");
+        write!(out, "{before}{name}@{}{behind}", leaf.version)?;
     }
     Ok(())
 }
@@ -51,16 +40,17 @@ fn push_reads(out: &mut String, before: &str, plan: &Plan, behind: &str) -> Resu
 fn push_plan(out: &mut String, plan: &Plan) -> Result<(), Memory> {
     push_reads(out, "", plan, " ")?;
     let schema = schema_of(*out.allocator(), plan)?;
-    let told = push_schema(out, &schema);
+    let text = schema_text(*out.allocator(), &schema);
     drop(schema);
-    told
+    push_given(out, text?)
 }
 
 /// Adds an array that is made, under its schema.
 fn push_array(out: &mut String, word: &str, name: &Name, schema: &Schema) -> Result<(), Memory> {
     push_named(out, word, name)?;
     push_word(out, " ")?;
-    push_schema(out, schema)
+    let text = schema_text(*out.allocator(), schema)?;
+    push_given(out, text)
 }
 
 /// Adds a new version of an array, and the versions that its plan reads.

@@ -31,12 +31,13 @@ fn read_catalogue<D: Disk>(alloc: Global, file: &mut PageFile<D>) -> Result<Byte
     Ok(bytes)
 }
 
-fn tell_root<D: Disk>(rt: &(impl Print + AllocGlobal), file: &mut PageFile<D>) -> Result<()> {
+fn tell_file<D: Disk>(rt: &(impl Print + AllocGlobal), file: &mut PageFile<D>) -> Result<()> {
     let root = file.root();
     print!(rt; "sequence {}, log page {}", root.sequence, root.log)?;
     tell_target(rt, file.target())?;
     let catalogue = read_catalogue(rt.alloc(), file);
-    tell_chain(rt, "catalogue", catalogue)
+    tell_chain(rt, "catalogue", catalogue)?;
+    tell_record(rt, file)
 }
 
 fn tell_record<D: Disk>(rt: &(impl Print + AllocGlobal), file: &mut PageFile<D>) -> Result<()> {
@@ -48,11 +49,6 @@ fn tell_record<D: Disk>(rt: &(impl Print + AllocGlobal), file: &mut PageFile<D>)
         Ok((bytes, _)) => tell_chain(rt, "record", Ok(bytes)),
         Err(cause) => tell_chain(rt, "record", Err(cause)),
     }
-}
-
-fn tell_file<D: Disk>(rt: &(impl Print + AllocGlobal), file: &mut PageFile<D>) -> Result<()> {
-    tell_root(rt, file)?;
-    tell_record(rt, file)
 }
 
 fn tell_cause(rt: &impl Print, cause: OpenCause) -> Result<()> {

@@ -37,10 +37,14 @@ fn read_on<D: Disk + Drop>(alloc: Global, disk: D) -> Option<D> {
 fn is_left_as_it_is(alloc: Global, bytes: &Bytes) -> Result<bool, Memory> {
     match read_on(alloc, disk_of(alloc, bytes.copy()?, None)?) {
         None => Ok(false),
-        Some(disk) => match disk_bytes(&disk) {
-            Ok(left) => Ok(left == *bytes),
-            Err(Memory) => Err(Memory),
-        },
+        Some(disk) => {
+            let left = disk_bytes(&disk);
+            drop(disk);
+            let left = left?;
+            let is_same = left == *bytes;
+            drop(left);
+            Ok(is_same)
+        }
     }
 }
 
@@ -59,7 +63,11 @@ fn commit_on<D: Disk + Drop>(disk: D) -> Option<D> {
 fn with_base(alloc: Global, bytes: Bytes) -> Result<Bytes, Memory> {
     match commit_on(disk_of(alloc, bytes, None)?) {
         None => Ok(List::new(alloc)),
-        Some(disk) => disk_bytes(&disk),
+        Some(disk) => {
+            let bytes = disk_bytes(&disk);
+            drop(disk);
+            bytes
+        }
     }
 }
 

@@ -9,29 +9,33 @@ use crate::reports::{device_of, new_file, push_run, shelf_of, streams_of};
 use cell_values::Memory;
 use std::sync::Wait;
 use std::thread::Threads;
+use std::time::Clock;
+use test_disks::count_of;
 use test_kit::push_word;
-use test_stores::count_of;
 
 /// Runs a command line over a new database, with the script that a text stands for, and tells the replies.
-fn push_script<R: AllocGlobal + Threads + Wait + Sync>(
+fn push_script<R: AllocGlobal + Threads + Wait + Clock + Sync>(
     rt: &R,
     out: &mut String,
     line: &str,
     text: &str,
 ) -> Result<(), Memory> {
     let database = new_file(rt)?;
-    let shelf = shelf_of(rt.alloc(), database.as_slice(), &["-"], &[text]);
+    let shelf = shelf_of(rt.alloc(), database.as_slice(), &["-"], &[text])?;
     drop(database);
-    push_run(rt, out, line, shelf?, false)
+    push_run(rt, out, line, shelf, false)
 }
 
 /// Adds what the run of a line comes to, by the word that it begins with.
-fn push_named<R: AllocGlobal + Threads + Wait + Sync>(
+pub(crate) fn push_command<R: AllocGlobal + Threads + Wait + Clock + Sync>(
     rt: &R,
     out: &mut String,
-    word: &str,
-    text: &str,
+    line: &str,
 ) -> Result<(), Memory> {
+    let Some((word, text)) = line.split_once(':') else {
+        return Ok(());
+    };
+    let text = text.trim_start();
     let number = count_of(text);
     match word {
         "workers" => {
@@ -41,29 +45,14 @@ fn push_named<R: AllocGlobal + Threads + Wait + Sync>(
         "csv" => push_script(rt, out, "run db --format csv+ -", text),
         "trace" => push_script(rt, out, "run db --trace -", text),
         "words" => push_run(rt, out, text, streams_of(rt.alloc(), "", &[], &[])?, true),
-        "init" => push_run(
-            rt,
-            out,
-            "init db",
-            device_of(rt.alloc(), number as usize, &[])?,
-            true,
-        ),
+        "init" => {
+            let device = device_of(rt.alloc(), number as usize, &[])?;
+            push_run(rt, out, "init db", device, true)
+        }
         "fails" => {
             let device = device_of(rt.alloc(), 0, &[u64::from(number)])?;
             push_run(rt, out, "init db", device, true)
         }
         _ => push_word(out, "unknown\n"),
-    }
-}
-
-/// Adds what the run of a line comes to.
-pub(crate) fn push_command<R: AllocGlobal + Threads + Wait + Sync>(
-    rt: &R,
-    out: &mut String,
-    line: &str,
-) -> Result<(), Memory> {
-    match line.split_once(':') {
-        Some((word, text)) => push_named(rt, out, word, text.trim_start()),
-        None => Ok(()),
     }
 }

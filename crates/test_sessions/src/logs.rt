@@ -5,8 +5,8 @@ use cell_values::{List, Memory};
 use std::sync::Wait;
 use std::thread;
 use std::thread::Threads;
+use test_disks::push_numbered;
 use test_kit::push_word;
-use test_stores::push_numbered;
 use turn_lock::{Log, TurnLock, TurnSeat, append};
 
 /// Whether the entries of a seat have the contents 0 to 999, in this order.
@@ -50,8 +50,8 @@ fn append_all<R: Threads + Wait + Sync>(
 
 /// Adds how many entries there are, and whether those of each seat are all there, in order.
 fn push_log(out: &mut String, log: &Log) -> Result<(), Memory> {
-    push_numbered(out, "log ", log.number, ", entries ")?;
-    push_numbered(out, "", log.entries.len() as u64, "\n")?;
+    let (number, entries) = (log.number, log.entries.len());
+    writeln!(out, "log {number}, entries {entries}")?;
     for by in 0..4u32 {
         let told = if has_thousand(log, by) {
             ": 0 to 999, in order\n"
@@ -75,7 +75,5 @@ pub(crate) fn push_entries<R: Threads + Wait + Sync>(
     let mut seats = seats.into_vec();
     append_all(rt, &lock, seats.as_mut_slice(), 1_000);
     let log = lock.close(List::from_vec(seats));
-    let told = push_log(out, &log);
-    drop(log);
-    told
+    push_log(out, &log)
 }

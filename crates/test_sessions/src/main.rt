@@ -8,6 +8,7 @@ mod bells;
 mod commands;
 mod commits;
 mod logs;
+mod order;
 mod reports;
 mod seats;
 mod sessions;

@@ -6,8 +6,9 @@
 use cell_values::Memory;
 use std::sync::Wait;
 use std::thread::Threads;
+use test_disks::{count_of, limits_of};
 use test_kit::push_word;
-use test_stores::{count_of, limits_of, push_threads};
+use test_stores::push_threads;
 
 /// Adds what comes of a line.
 pub(crate) fn push_seats<R: Threads + Wait + Sync>(

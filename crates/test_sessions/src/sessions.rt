@@ -9,7 +9,6 @@
 //! once all stops before it in the list are behind their sessions. A stop that is named twice is reached at the first place, and left at
 //! the second. Where a session is held too long all stops are let go; it is told where the order wasn't kept.
 
-mod order;
 mod runs;
 
 use cell_values::Memory;
@@ -25,7 +24,5 @@ pub(crate) fn push_sessions<R: AllocGlobal + Threads + Wait + Clock + Sync>(
     line: &str,
 ) -> Result<(), Memory> {
     let parts: Vec<&str> = line.split('|').map(|part| part.trim()).collect(rt.alloc())?;
-    let told = push_case(rt, out, parts.as_slice());
-    drop(parts);
-    told
+    push_case(rt, out, parts.as_slice())
 }

@@ -8,8 +8,9 @@ ghost use Rattle.test_stores.specs.Runs.{IsRun};
 use cell_values::Memory;
 use std::sync::Wait;
 use std::thread::Threads;
+use test_disks::limits_of;
 use test_kit::{begin_answer, push_word, push_words};
-use test_stores::{Run, answer_line, limits_of, push_finished, shared_database};
+use test_stores::{Run, answer_line, push_finished, shared_database};
 
 /// Adds each line, with its answer.
 fn push_steps<R: Threads + Wait + Sync>(
@@ -44,21 +45,7 @@ fn push_run<R: Threads + Wait + Sync>(
     end
 }
 
-/// Shares a store anew, and adds the lines behind that.
-fn push_share<R: Threads + Wait + Sync>(
-    rt: &R,
-    out: &mut String,
-    numbers: &str,
-    steps: &str,
-) -> Result<(), Memory> {
-    push_words(out, &["> share ", numbers, "\n"])?;
-    match shared_database(rt, *out.allocator(), limits_of(numbers)) {
-        Ok(run) => push_run(rt, out, run, steps),
-        Err(answer) => answer.tell(out),
-    }
-}
-
-/// Adds the lines of a text with their answers.
+/// Adds the lines of a text with their answers. Behind each line of `finish` a store is shared anew.
 pub(crate) fn push_shared<R: Threads + Wait + Sync>(
     rt: &R,
     out: &mut String,
@@ -68,7 +55,11 @@ pub(crate) fn push_shared<R: Threads + Wait + Sync>(
         let (titles, rest) = lines.split_once("share ").unwrap_or((lines, ""));
         push_word(out, titles)?;
         if let Some((numbers, steps)) = rest.split_once('\n') {
-            push_share(rt, out, numbers, steps)?;
+            push_words(out, &["> share ", numbers, "\n"])?;
+            match shared_database(rt, *out.allocator(), limits_of(numbers)) {
+                Ok(run) => push_run(rt, out, run, steps)?,
+                Err(answer) => answer.tell(out)?,
+            }
         }
     }
     Ok(())

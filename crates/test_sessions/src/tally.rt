@@ -7,8 +7,8 @@ use cell_values::{List, Memory};
 use std::sync::Wait;
 use std::thread;
 use std::thread::Threads;
+use test_disks::push_numbered;
 use test_kit::push_word;
-use test_stores::push_numbered;
 use turn_lock::{History, TurnLock, TurnSeat};
 
 #[derive(Clone, Copy)]
@@ -99,8 +99,8 @@ fn all_turns<R: Threads + Wait + Sync>(
 
 /// Adds how many marks there are, and whether each seat's last one is of its last turn.
 fn push_tally(out: &mut String, tally: &Tally) -> Result<(), Memory> {
-    push_numbered(out, "start ", tally.start, ", marks ")?;
-    push_numbered(out, "", tally.count(), "\n")?;
+    let (start, marks) = (tally.start, tally.count());
+    writeln!(out, "start {start}, marks {marks}")?;
     for by in 0..4u32 {
         let told = if tally.last_turn(by) == Some(9_999) {
             ": each turn, in order\n"
@@ -125,7 +125,5 @@ pub(crate) fn push_turns<R: Threads + Wait + Sync>(rt: &R, out: &mut String) -> 
     let mut seats = seats.into_vec();
     all_turns(rt, &lock, seats.as_mut_slice(), 10_000);
     let tally = lock.close(List::from_vec(seats));
-    let told = push_tally(out, &tally);
-    drop(tally);
-    told
+    push_tally(out, &tally)
 }

@@ -6,9 +6,10 @@ use crate::reports::{push_run, streams_of};
 use cell_values::Memory;
 use std::sync::Wait;
 use std::thread::Threads;
+use std::time::Clock;
 
 /// Adds what the run of a script comes to.
-pub(crate) fn push_try<R: AllocGlobal + Threads + Wait + Sync>(
+pub(crate) fn push_try<R: AllocGlobal + Threads + Wait + Clock + Sync>(
     rt: &R,
     out: &mut String,
     line: &str,

@@ -42,8 +42,8 @@ are_rows layout = record {
 pub schema_valid : (layout : Layout) (s : Schema) → s ≡ schema layout → IsValid s
 schema_valid layout s e = subst IsValid (sym e) (valid layout)
 
-pub pairs_valid : (s : Schema) → s ≡ schema Pairs → IsValid s
-pairs_valid s e = schema_valid Pairs s e
+pub leaf_valid : (layout : Layout) (l : Leaf) → l ≡ leaf layout → IsValid l.schema
+leaf_valid layout l e = subst (λ (z : Leaf). IsValid z.schema) (sym e) (valid layout)
 
 pub rows_are : (layout : Layout) (s : Schema) (rs : List Row) → s ≡ schema layout → rs ≡ rows → AreRowsOf s rs
 rows_are layout s rs e f = subst (λ (z : Schema). AreRowsOf z rs) (sym e) (subst (AreRowsOf (schema layout)) (sym f) (are_rows layout))

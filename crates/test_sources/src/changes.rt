@@ -7,10 +7,10 @@ ghost use Rattle.test_sources.specs.Changed.{by_zero, change_of, plan_of, share,
 ghost use Rattle.test_sources.specs.Example.{leaf, schema};
 ghost use Rattle.test_sources.specs.declared.changes.Case.TheVariants.{Stores};
 
-use crate::example::{example_leaf, failing_source, schema};
+use crate::example::{example_leaf, schema};
 use crate::layout::Layout;
 use crate::plans::above_five;
-use crate::show::{push_asked, push_broken, push_cause, push_chunks, push_faults};
+use crate::show::{push_broken, push_cause, push_chunks, push_faults};
 use afl_outside::OpenGate;
 use array_geom::Changed;
 use cell_values::{CompareOp, Datum, Memory};
@@ -182,7 +182,7 @@ fn push_made<S: ChunkSource, R: Threads + Sync>(
 
 /// Makes a change over a source that has the array.
 #[tactic(auto, using(crate::proofs::Made::can_change))]
-fn push_case<S: ChunkSource, R: Threads + Sync>(
+pub(crate) fn push_case<S: ChunkSource, R: Threads + Sync>(
     rt: &R,
     out: &mut String,
     source: &mut S,
@@ -205,20 +205,4 @@ fn push_case<S: ChunkSource, R: Threads + Sync>(
             Err(Memory)
         }
     }
-}
-
-/// A change over a source, some of whose calls fail.
-pub(crate) fn push_change<R: Threads + Sync>(
-    rt: &R,
-    out: &mut String,
-    case: Case,
-    layout: Layout,
-    fails: &[u64],
-) -> Result<(), Memory> {
-    let mut source = failing_source(*out.allocator(), layout, fails)?;
-    let told = push_case(rt, out, &mut source, case, layout);
-    let asked = push_asked(out, source.asked());
-    drop(source);
-    told?;
-    asked
 }

@@ -115,15 +115,24 @@ fn arrays(alloc: Global, layout: Layout) -> Result<List<LeafArray>, Memory>
     Ok(arrays)
 }
 
-/// A source over the array, some of whose calls fail.
+/// The numbers of the calls that are to fail.
+fn numbers_in(alloc: Global, words: &str) -> Result<List<u64>, Memory> {
+    let mut numbers = List::new(alloc);
+    for word in words.split_whitespace() {
+        numbers.push(word.parse::<u64>().unwrap_or(0))?;
+    }
+    Ok(numbers)
+}
+
+/// A source over the array, whose calls of these numbers fail.
 pub(crate) fn failing_source(
     alloc: Global,
     layout: Layout,
-    fails: &[u64],
+    fails: &str,
 ) -> Result<MemChunks, Memory>
     ensures { IfOk result (λ source. Reads (memory_state source) (leaf layout)) }
 {
-    MemChunks::new(arrays(alloc, layout)?, List::from_slice(alloc, fails)?)
+    MemChunks::new(arrays(alloc, layout)?, numbers_in(alloc, fails)?)
 }
 
 /// A source over the array that never fails.

@@ -37,11 +37,11 @@ impl Layout {
     }
 }
 
-/// The layout of a word.
+/// The layout of a word: two places where it says none.
 pub(crate) fn layout_of(word: &str) -> Layout {
     match word {
         "singles" => Layout::Singles,
-        "pairs" => Layout::Pairs,
-        _ => Layout::Whole,
+        "whole" => Layout::Whole,
+        _ => Layout::Pairs,
     }
 }

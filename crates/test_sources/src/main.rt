@@ -16,39 +16,74 @@ mod show;
 mod workers;
 
 use cell_values::Memory;
-use changes::{case_of, push_change};
-use layout::layout_of;
-use leaves::{push_failing, push_sure};
-use plans::{push_failing_filter, push_sure_filter};
+use changes::{case_of, push_case};
+use example::{failing_source, sure_source};
+use layout::{Layout, layout_of};
+use leaves::push_stored;
+use plans::push_filter;
+use show::push_asked;
 use std::io;
 use std::thread::Threads;
-use test_kit::{begin_answer, input, words_of};
+use test_kit::{begin_answer, input};
 use workers::push_workers;
 
-/// The numbers of the calls that are to fail.
-fn numbers_in(out: &String, words: &[&str]) -> Result<Vec<u64>, Memory> {
-    let mut numbers = Vec::new(*out.allocator());
-    for word in words {
-        numbers.push(word.parse::<u64>().unwrap_or(0))?;
-    }
-    Ok(numbers)
+/// Reads or changes the array from a source whose calls of these numbers fail.
+fn push_failing<R: Threads + Sync>(
+    rt: &R,
+    out: &mut String,
+    word: &str,
+    layout: Layout,
+    fails: &str,
+) -> Result<(), Memory> {
+    let mut source = failing_source(*out.allocator(), layout, fails)?;
+    let told = match word {
+        "leaf" => push_stored(out, &mut source, layout),
+        "filter" => push_filter(rt, out, &mut source, layout),
+        case => push_case(rt, out, &mut source, case_of(case), layout),
+    };
+    let asked = push_asked(out, source.asked());
+    drop(source);
+    told?;
+    asked
 }
 
-/// Adds the answer to the words of a line.
-fn push_answer<R: Threads + Sync>(rt: &R, out: &mut String, words: &[&str]) -> Result<(), Memory> {
-    match words {
-        ["leaf", fails @ ..] => push_failing(out, &numbers_in(out, fails)?),
-        ["sure", "leaf"] => push_sure(out),
-        ["filter", layout, fails @ ..] => {
-            push_failing_filter(rt, out, layout_of(layout), &numbers_in(out, fails)?)
+/// Reads the array from a source that never fails.
+fn push_sure<R: Threads + Sync>(
+    rt: &R,
+    out: &mut String,
+    word: &str,
+    layout: Layout,
+) -> Result<(), Memory> {
+    let mut source = sure_source(*out.allocator(), layout)?;
+    let told = match word {
+        "leaf" => push_stored(out, &mut source, layout),
+        _ => push_filter(rt, out, &mut source, layout),
+    };
+    let asked = push_asked(out, source.asked());
+    drop(source);
+    told?;
+    asked
+}
+
+/// The first word of a text, and what stands behind it.
+fn front_of(text: &str) -> (&str, &str) {
+    text.split_once(' ').unwrap_or((text, ""))
+}
+
+/// Adds the answer to a line.
+fn push_answer<R: Threads + Sync>(rt: &R, out: &mut String, line: &str) -> Result<(), Memory> {
+    let (word, behind) = front_of(line);
+    match word {
+        "workers" => push_workers(rt, out, behind),
+        "leaf" => push_failing(rt, out, word, Layout::Pairs, behind),
+        "sure" => {
+            let (word, layout) = front_of(behind);
+            push_sure(rt, out, word, layout_of(layout))
         }
-        ["workers", count] => push_workers(rt, out, count),
-        ["sure", "filter", layout] => push_sure_filter(rt, out, layout_of(layout)),
-        [case, layout, fails @ ..] => {
-            let numbers = numbers_in(out, fails)?;
-            push_change(rt, out, case_of(case), layout_of(layout), &numbers)
+        word => {
+            let (layout, fails) = front_of(behind);
+            push_failing(rt, out, word, layout_of(layout), fails)
         }
-        _ => Ok(()),
     }
 }
 
@@ -56,10 +91,7 @@ fn push_answer<R: Threads + Sync>(rt: &R, out: &mut String, words: &[&str]) -> R
 fn push_lines<R: Threads + Sync>(rt: &R, out: &mut String, text: &str) -> Result<(), Memory> {
     for line in text.lines() {
         if begin_answer(out, line)? {
-            let words = words_of(*out.allocator(), line)?;
-            let told = push_answer(rt, out, words.as_slice());
-            drop(words);
-            told?;
+            push_answer(rt, out, line)?;
         }
     }
     Ok(())

@@ -4,15 +4,15 @@ ghost use Rattle.chunk_exec.specs.Computed.{CanCompute};
 ghost use Rattle.chunk_source.specs.Source.{Reads};
 ghost use Rattle.test_sources.specs.Example.{above_five, leaf};
 
-use crate::example::{example_leaf, failing_source, sure_source};
+use crate::example::example_leaf;
 use crate::layout::Layout;
-use crate::show::{push_asked, push_cause, push_cells, push_chunks, push_faults};
+use crate::show::{push_cause, push_cells, push_chunks, push_faults};
 use afl_outside::OpenGate;
 use cell_values::{CompareOp, Datum, Memory};
 use chunk_exec::execute;
 use chunk_source::ChunkSource;
 use expr_nulls::TypedExpr;
-use logical_plan::{Plan, let_go};
+use logical_plan::Plan;
 use std::alloc::Global;
 use std::thread::Threads;
 
@@ -51,7 +51,7 @@ fn push_plan<S: ChunkSource, R: Threads + Sync>(
 
 /// Executes the filter over a source that has the array.
 #[tactic(auto, using(crate::proofs::Executed::can_compute))]
-fn push_filter<S: ChunkSource, R: Threads + Sync>(
+pub(crate) fn push_filter<S: ChunkSource, R: Threads + Sync>(
     rt: &R,
     out: &mut String,
     source: &mut S,
@@ -62,35 +62,6 @@ fn push_filter<S: ChunkSource, R: Threads + Sync>(
 {
     let plan = above_five(*out.allocator(), layout)?;
     let told = push_plan(rt, out, source, &plan);
-    let_go(plan);
+    drop(plan);
     told
-}
-
-/// The filter over a source, some of whose calls fail.
-pub(crate) fn push_failing_filter<R: Threads + Sync>(
-    rt: &R,
-    out: &mut String,
-    layout: Layout,
-    fails: &[u64],
-) -> Result<(), Memory> {
-    let mut source = failing_source(*out.allocator(), layout, fails)?;
-    let told = push_filter(rt, out, &mut source, layout);
-    let asked = push_asked(out, source.asked());
-    drop(source);
-    told?;
-    asked
-}
-
-/// The filter over a source that never fails.
-pub(crate) fn push_sure_filter<R: Threads + Sync>(
-    rt: &R,
-    out: &mut String,
-    layout: Layout,
-) -> Result<(), Memory> {
-    let mut source = sure_source(*out.allocator(), layout)?;
-    let told = push_filter(rt, out, &mut source, layout);
-    let asked = push_asked(out, source.asked());
-    drop(source);
-    told?;
-    asked
 }

@@ -1,11 +1,3 @@
-pub mod Cells
-pub mod Chunks
-pub mod Holds
-pub mod Offers
-pub mod Pairs
-pub mod Quiet
 pub mod Runs
-pub mod Silent
-pub mod Statements
 pub mod Visitors
 pub mod Visits

@@ -1,8 +1,8 @@
 -- A store that three sessions share, and what each has of it.
 use Rattle.std.specs.Prelude.{◌≡◌, ◌≤◌, [], vec_capacity}
 use Rattle.snapshot_manager.specs.Seats.{IsIdle, IsSeatOf, seats_in_all}
-use Rattle.test_stores.specs.declared.shared.runs.Run.{Run}
-use Rattle.test_stores.specs.Silent.{silent_moment}
+use Rattle.test_stores.specs.declared.runs.Run.{Run}
+use Rattle.test_disks.specs.Silent.{silent_moment}
 use Rattle.test_stores.specs.Visits.{IsUntold}
 use Rattle.test_stores.specs.Visitors.{IsVisitor}
 

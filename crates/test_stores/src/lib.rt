@@ -1,19 +1,15 @@
-//! What programs of tests do with stores: disks that count and stop, changes said in lines, what is read of a store, and stores that
-//! sessions share.
+//! Stores that sessions share: the steps of sessions that keep their seats, runs of three sessions on one thread, and sessions on threads.
 #![tactic(auto)]
 
-mod disks;
-mod readings;
-mod shared;
-mod stores;
+mod reading;
+mod runs;
+mod seats;
+mod steps;
+mod tally;
+mod threads;
+mod visitors;
+mod whole;
 
-pub use disks::{QuietDisk, Watch, push_costs};
-pub use readings::{held_in, push_answered};
-pub use shared::{
-    Run, SilentDisk, Visitor, answer_line, new_database, old_database, push_finished, push_threads,
-    shared_database, with_change,
-};
-pub use stores::{
-    Answer, Hold, SessionPair, answer_of_pair, count_of, limits_of, pair_of, pair_over,
-    push_counts, push_numbered,
-};
+pub use runs::{Run, answer_line, push_finished, shared_database};
+pub use visitors::Visitor;
+pub use whole::push_threads;

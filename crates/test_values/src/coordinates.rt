@@ -1,7 +1,7 @@
 //! Coordinates, boxes and rows.
 
 use array_rows::is_in_box;
-use cell_values::{Bounds, Broken, Datum, FaultKind, Memory, Row, row_major, same_place};
+use cell_values::{Bounds, Broken, Datum, FaultKind, Memory, Row, row_major};
 use std::cmp::Ordering;
 use test_kit::{cell_of, coord_in, fault_of, push_cell, push_coord, push_datum, push_word};
 
@@ -64,12 +64,6 @@ pub(crate) fn push_order(out: &mut String, one: &str, other: &str) -> Result<(),
         Ordering::Greater => "behind",
     };
     push_word(out, word)
-}
-
-/// Adds whether two coordinates are the same.
-pub(crate) fn push_same(out: &mut String, one: &str, other: &str) -> Result<(), Memory> {
-    let is_same = same_place(&coord_in(one), &coord_in(other));
-    push_word(out, if is_same { "the same" } else { "another" })
 }
 
 /// Adds whether a coordinate lies in a box.

@@ -1,25 +1,21 @@
 //! Disks.
 
-use crate::streams::{push_call, push_faults};
-use afl_outside::{DeviceCall, Disk, Failed, MemDisk, SureDisk};
-use cell_values::{Bytes, List, Memory};
+use crate::objects::{front_of, number_in};
+use crate::streams::push_faults;
+use afl_outside::{DeviceCall, Disk, Failed, MemDisk};
+use cell_values::Memory;
 use std::alloc::Global;
-use test_kit::{push_count, push_given, push_text, push_word, words_of};
-
-/// The number of a word; 0 where it is none.
-pub(crate) fn number_in(word: &str) -> u64 {
-    word.parse::<u64>().unwrap_or(0)
-}
+use test_kit::{push_count, push_given, push_text, push_word, push_words};
 
 fn push_done(out: &mut String, done: Result<(), Failed>) -> Result<(), Memory> {
     push_word(out, if done.is_ok() { "done" } else { "failed" })
 }
 
 /// Adds how many bytes a read gives, and the piece that it was read into, which has eight bytes at most.
-fn push_read<D: Disk>(out: &mut String, disk: &mut D, at: &str, count: &str) -> Result<(), Memory> {
+fn push_read<D: Disk>(out: &mut String, disk: &mut D, at: u64, count: u64) -> Result<(), Memory> {
     let mut piece = [0u8; 8];
-    let count = (number_in(count) as usize).min(8);
-    match disk.read_at(number_in(at), &mut piece[..count]) {
+    let count = (count as usize).min(8);
+    match disk.read_at(at, &mut piece[..count]) {
         Ok(given) => {
             write!(out, "{given} of ")?;
             push_text(out, &piece[..count])
@@ -28,28 +24,22 @@ fn push_read<D: Disk>(out: &mut String, disk: &mut D, at: &str, count: &str) -> 
     }
 }
 
-/// Adds what a disk answers to a call without operands.
-pub(crate) fn push_plain<D: Disk>(
+/// Adds what a disk answers to a call.
+pub(crate) fn push_answer<D: Disk>(
     out: &mut String,
     disk: &mut D,
-    word: &str,
+    call: &str,
 ) -> Result<(), Memory> {
+    let (word, operands) = front_of(call);
+    let (at, operand) = front_of(operands);
     match word {
         "sync" => push_done(out, disk.sync()),
+        "write" => push_done(out, disk.write_at(number_in(at), operand.as_bytes())),
+        "read" => push_read(out, disk, number_in(at), number_in(operand)),
         _ => match disk.len() {
             Ok(length) => push_count(out, length),
             Err(Failed) => push_word(out, "failed"),
         },
-    }
-}
-
-/// Adds what a disk answers to a call.
-fn push_answer<D: Disk>(out: &mut String, disk: &mut D, words: &[&str]) -> Result<(), Memory> {
-    match words {
-        [word] => push_plain(out, disk, word),
-        ["write", at, bytes] => push_done(out, disk.write_at(number_in(at), bytes.as_bytes())),
-        [_, at, count] => push_read(out, disk, at, count),
-        _ => Ok(()),
     }
 }
 
@@ -60,11 +50,8 @@ pub(crate) fn push_answers<D: Disk>(
     calls: &[&str],
 ) -> Result<(), Memory> {
     for call in calls {
-        push_call(out, call)?;
-        let words = words_of(*out.allocator(), call)?;
-        let told = push_answer(out, disk, words.as_slice());
-        drop(words);
-        told?;
+        push_words(out, &[call.trim(), ": "])?;
+        push_answer(out, disk, call)?;
         push_word(out, "\n")?;
     }
     Ok(())
@@ -80,7 +67,9 @@ fn kept_in(alloc: Global, signs: &str) -> Result<Vec<bool>, Memory> {
 }
 
 /// Adds the image after so many calls, with the writes at a `+` kept and dots for those at a `-`.
-fn push_image(out: &mut String, disk: &MemDisk, calls: u64, signs: &str) -> Result<(), Memory> {
+fn push_image(out: &mut String, disk: &MemDisk, operands: &str) -> Result<(), Memory> {
+    let (calls, signs) = front_of(operands);
+    let calls = number_in(calls);
     if calls > disk.calls().len() as u64 {
         return Ok(());
     }
@@ -117,40 +106,21 @@ fn push_calls(out: &mut String, disk: &MemDisk) -> Result<(), Memory> {
     Ok(())
 }
 
-fn push_recording(out: &mut String, disk: &mut MemDisk, words: &[&str]) -> Result<(), Memory> {
-    match words {
-        ["calls"] => push_calls(out, disk),
-        ["image", calls] => push_image(out, disk, number_in(calls), ""),
-        ["image", calls, signs] => push_image(out, disk, number_in(calls), signs),
-        words => push_answer(out, disk, words),
-    }
-}
-
-fn push_lines(out: &mut String, disk: &mut MemDisk, calls: &[&str]) -> Result<(), Memory> {
+/// Adds what a disk in memory answers to calls, and what it has recorded.
+pub(crate) fn push_disk(
+    out: &mut String,
+    disk: &mut MemDisk,
+    calls: &[&str],
+) -> Result<(), Memory> {
     for call in calls {
-        push_call(out, call)?;
-        let words = words_of(*out.allocator(), call)?;
-        let told = push_recording(out, disk, words.as_slice());
-        drop(words);
-        told?;
+        push_words(out, &[call.trim(), ": "])?;
+        let (word, operands) = front_of(call);
+        match word {
+            "calls" => push_calls(out, disk)?,
+            "image" => push_image(out, disk, operands)?,
+            _ => push_answer(out, disk, call)?,
+        }
         push_word(out, "\n")?;
     }
     push_faults(out, disk.faults(), disk.wants())
-}
-
-/// Adds what a disk in memory answers to calls.
-pub(crate) fn push_disk(
-    out: &mut String,
-    content: &str,
-    fails: List<u64>,
-    calls: &[&str],
-) -> Result<(), Memory> {
-    let content = Bytes::from_slice(*out.allocator(), content.as_bytes())?;
-    push_lines(out, &mut MemDisk::new(content, fails), calls)
-}
-
-/// Adds what an empty disk that never fails answers to calls.
-pub(crate) fn push_sure_disk(out: &mut String, calls: &[&str]) -> Result<(), Memory> {
-    let empty = Bytes::new(*out.allocator());
-    push_answers(out, &mut SureDisk::new(empty), calls)
 }

@@ -32,25 +32,12 @@ impl Lists {
     /// Does a call without operands, and adds the item that it gives, if it gives one.
     fn call_plain(&mut self, out: &mut String, word: &str) -> Result<(), Memory> {
         match word {
-            "append" => {
-                let more = self.taken.copy()?;
-                self.list.append(more)
-            }
-            "clear" => {
-                self.list.clear();
-                Ok(())
-            }
-            "pop" => push_item(out, self.list.pop()),
-            word => self.keep(word),
+            "append" => self.list.append(self.taken.copy()?)?,
+            "clear" => self.list.clear(),
+            "pop" => push_item(out, self.list.pop())?,
+            "copy" => self.taken = self.list.copy()?,
+            _ => self.taken = self.list.take(),
         }
-    }
-
-    /// Copies the list, or takes all of it.
-    fn keep(&mut self, word: &str) -> Result<(), Memory> {
-        self.taken = match word {
-            "copy" => self.list.copy()?,
-            _ => self.list.take(),
-        };
         Ok(())
     }
 
@@ -93,34 +80,25 @@ impl Lists {
         }
     }
 
-    /// Does a call, and adds what it gives, the list that it leaves, and how that stands to what was taken.
+    /// Does a call, and adds what it gives, the list that it leaves with its length and its largest byte, and how that
+    /// stands to what was taken.
     pub(crate) fn push_call(&mut self, out: &mut String, words: &[&str]) -> Result<(), Memory> {
         self.call(out, words)?;
-        push_list(out, self.list.as_slice())?;
-        push_word(out, standing(self.list.cmp(&self.taken)))?;
-        push_quoted(out, self.taken.as_slice())
-    }
-}
-
-/// Adds bytes, how many there are and the largest.
-fn push_list(out: &mut String, list: &[u8]) -> Result<(), Memory> {
-    push_quoted(out, list)?;
-    push_word(out, " of ")?;
-    push_count(out, list.len() as u64)?;
-    match list.iter().copied().max() {
-        Some(most) => {
+        let list = self.list.as_slice();
+        push_quoted(out, list)?;
+        push_word(out, " of ")?;
+        push_count(out, list.len() as u64)?;
+        if let Some(most) = list.iter().copied().max() {
             push_word(out, ", largest ")?;
-            push_text(out, &[most])
+            push_text(out, &[most])?;
         }
-        None => Ok(()),
-    }
-}
-
-fn standing(order: Ordering) -> &'static str {
-    match order {
-        Ordering::Less => ", less than ",
-        Ordering::Equal => ", equal to ",
-        Ordering::Greater => ", more than ",
+        let standing = match self.list.cmp(&self.taken) {
+            Ordering::Less => ", less than ",
+            Ordering::Equal => ", equal to ",
+            Ordering::Greater => ", more than ",
+        };
+        push_word(out, standing)?;
+        push_quoted(out, self.taken.as_slice())
     }
 }
 

@@ -24,37 +24,26 @@ use cell_values::Memory;
 use lists::Lists;
 use objects::push_object_line;
 use std::{fs, io};
-use test_kit::{begin_answer, input, push_words};
+use test_kit::{begin_answer, input};
 use values::push_call_line;
 
-/// Adds the answer to a line of the table below a title.
-fn push_answer<S: Shelf>(
-    out: &mut String,
-    lists: &mut Lists,
-    shelf: &mut S,
-    title: &str,
-    line: &str,
-) -> Result<(), Memory> {
-    match title {
-        "objects in memory" | "real objects" => push_object_line(out, shelf, line),
-        title => push_call_line(out, lists, title, line),
-    }
+/// What the lines of a table are.
+#[derive(Clone, Copy)]
+pub(crate) enum Table {
+    Values,
+    Chunks,
+    Aggregates,
+    Objects,
 }
 
-/// Adds the lines of a table with their answers.
-fn push_table<S: Shelf>(
-    out: &mut String,
-    lists: &mut Lists,
-    shelf: &mut S,
-    title: &str,
-    text: &str,
-) -> Result<(), Memory> {
-    for line in text.lines() {
-        if begin_answer(out, line)? {
-            push_answer(out, lists, shelf, title, line)?;
-        }
+/// The table of a title.
+fn table_of(title: &str) -> Table {
+    match title {
+        "### values" => Table::Values,
+        "### chunks" => Table::Chunks,
+        "### aggregates" => Table::Aggregates,
+        _ => Table::Objects,
     }
-    Ok(())
 }
 
 /// Adds the title of each table, and its lines with their answers.
@@ -64,10 +53,15 @@ fn push_tables<S: Shelf>(
     shelf: &mut S,
     text: &str,
 ) -> Result<(), Memory> {
-    for part in text.split("### ") {
-        if let Some((title, lines)) = part.split_once('\n') {
-            push_words(out, &["### ", title, "\n"])?;
-            push_table(out, lists, shelf, title, lines)?;
+    let mut table = Table::Values;
+    for line in text.lines() {
+        if begin_answer(out, line)? {
+            match table {
+                Table::Objects => push_object_line(out, shelf, line)?,
+                table => push_call_line(out, lists, table, line)?,
+            }
+        } else if line.starts_with("### ") {
+            table = table_of(line);
         }
     }
     Ok(())

@@ -3,26 +3,38 @@
 //! A line has the object first, with what it holds and the numbers, from 0, of the calls that are to fail; then, each
 //! behind a `|`, the calls. A `sure` object has no failing calls, and a `real` one is a stream or a file of the system.
 
-use crate::disks::{number_in, push_disk, push_sure_disk};
+use crate::disks::{push_answers, push_disk};
 use crate::real::push_real;
 use crate::shelves::push_shelf;
-use crate::streams::{push_sink, push_source, push_sure_sink, push_sure_source};
-use afl_outside::{Shelf, has_risen};
-use cell_values::{List, Memory};
+use crate::streams::{push_reads, push_sink, push_sure_sink};
+use afl_outside::{MemDisk, MemSink, MemSource, Shelf, SureDisk, SureSink, SureSource, has_risen};
+use cell_values::{Bytes, List, Memory};
 use std::alloc::Global;
-use test_kit::{push_word, words_of};
+use test_kit::push_word;
+
+/// The number of a word; 0 where it is none.
+pub(crate) fn number_in(word: &str) -> u64 {
+    word.parse::<u64>().unwrap_or(0)
+}
+
+/// The first word of a text, and what stands behind it.
+pub(crate) fn front_of(text: &str) -> (&str, &str) {
+    let text = text.trim();
+    text.split_once(' ').unwrap_or((text, ""))
+}
 
 /// The numbers of the calls that are to fail.
-fn numbers_in(alloc: Global, words: &[&str]) -> Result<List<u64>, Memory> {
+pub(crate) fn numbers_in(alloc: Global, words: &str) -> Result<List<u64>, Memory> {
     let mut numbers = List::new(alloc);
-    for word in words {
+    for word in words.split_whitespace() {
         numbers.push(number_in(word))?;
     }
     Ok(numbers)
 }
 
 /// Adds whether a count of failed calls has risen.
-fn push_risen(out: &mut String, before: &str, now: &str) -> Result<(), Memory> {
+fn push_risen(out: &mut String, counts: &str) -> Result<(), Memory> {
+    let (before, now) = front_of(counts);
     let before = number_in(before);
     let now = number_in(now);
     let has_risen = before <= now && has_risen(before, now);
@@ -30,58 +42,59 @@ fn push_risen(out: &mut String, before: &str, now: &str) -> Result<(), Memory> {
 }
 
 /// Adds what an object that never fails answers to calls.
-fn push_sure(out: &mut String, object: &[&str], calls: &[&str]) -> Result<(), Memory> {
-    match object {
-        ["source", content] => push_sure_source(out, content, calls),
-        ["sink", content] => push_sure_sink(out, content, calls),
-        ["disk"] => push_sure_disk(out, calls),
-        _ => Ok(()),
+fn push_sure(out: &mut String, object: &str, calls: &[&str]) -> Result<(), Memory> {
+    let (word, content) = front_of(object);
+    let content = Bytes::from_slice(*out.allocator(), content.as_bytes())?;
+    match word {
+        "source" => push_reads(out, &mut SureSource::new(content), calls),
+        "sink" => push_sure_sink(out, &mut SureSink::new(content), calls),
+        _ => push_answers(out, &mut SureDisk::new(content), calls),
     }
 }
 
-/// Adds what an object that holds something, and fails at the calls of these numbers, answers to calls.
-fn push_failing(
+/// Adds what an object that holds these bytes, and fails at the calls of these numbers, answers to calls.
+fn push_holding(
     out: &mut String,
     object: &str,
-    content: &str,
-    fails: &[&str],
+    content: Bytes,
+    fails: List<u64>,
     calls: &[&str],
 ) -> Result<(), Memory> {
-    let fails = numbers_in(*out.allocator(), fails)?;
     match object {
-        "source" => push_source(out, content, fails, calls),
-        "sink" => push_sink(out, content, fails, calls),
-        _ => push_disk(out, content, fails, calls),
+        "source" => push_reads(out, &mut MemSource::new(content, fails), calls),
+        "sink" => push_sink(out, &mut MemSink::new(content, fails), calls),
+        _ => push_disk(out, &mut MemDisk::new(content, fails), calls),
+    }
+}
+
+/// Adds what an object that holds something, and fails at some calls, answers to calls.
+fn push_failing(out: &mut String, object: &str, held: &str, calls: &[&str]) -> Result<(), Memory> {
+    let (content, fails) = front_of(held);
+    let content = Bytes::from_slice(*out.allocator(), content.as_bytes())?;
+    match numbers_in(*out.allocator(), fails) {
+        Ok(fails) => push_holding(out, object, content, fails, calls),
+        Err(Memory) => {
+            drop(content);
+            Err(Memory)
+        }
     }
 }
 
 /// Adds what an object answers to calls.
-fn push_answers<S: Shelf>(
-    out: &mut String,
-    shelf: &mut S,
-    object: &[&str],
-    calls: &[&str],
-) -> Result<(), Memory> {
-    match object {
-        ["count", before, now] => push_risen(out, before, now),
-        ["sure", object @ ..] => push_sure(out, object, calls),
-        ["real", object @ ..] => push_real(out, shelf, object, calls),
-        ["shelf", fails @ ..] => push_shelf(out, numbers_in(*out.allocator(), fails)?, calls),
-        [object, content, fails @ ..] => push_failing(out, object, content, fails, calls),
-        _ => Ok(()),
-    }
-}
-
 fn push_object<S: Shelf>(
     out: &mut String,
     shelf: &mut S,
     object: &str,
     calls: &[&str],
 ) -> Result<(), Memory> {
-    let words = words_of(*out.allocator(), object)?;
-    let told = push_answers(out, shelf, words.as_slice(), calls);
-    drop(words);
-    told
+    let (word, held) = front_of(object);
+    match word {
+        "count" => push_risen(out, held),
+        "sure" => push_sure(out, held, calls),
+        "real" => push_real(out, shelf, held, calls),
+        "shelf" => push_shelf(out, held, calls),
+        word => push_failing(out, word, held, calls),
+    }
 }
 
 /// Adds the answer to a line.

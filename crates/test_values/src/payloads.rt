@@ -1,5 +1,6 @@
 //! Payloads of chunks of two places.
 ghost use Rattle.std.specs.Prelude.{◌≡◌, [], ◌∷◌, IfOk};
+ghost use Rattle.array_geom.specs.Inner.Example.{example as area_example};
 ghost use Rattle.chunk_rle.specs.Inner.Example.{example};
 
 use crate::show::push_chunk;
@@ -10,8 +11,10 @@ use chunk_rle::{BadPayload, decode, encode};
 use std::alloc::Global;
 use test_kit::{bytes_in, cell_of, name_of, one_more, place_in, push_hex, push_word};
 
-fn attributes(alloc: Global) -> Result<List<Attribute>, Memory>
-    ensures { IfOk result (λ attributes. attributes ≡ example.attributes) }
+/// A number in each cell.
+pub(crate) fn attributes(alloc: Global) -> Result<List<Attribute>, Memory>
+    ensures line { IfOk result (λ attributes. attributes ≡ example.attributes) }
+    ensures area { IfOk result (λ attributes. attributes ≡ area_example.attributes) }
 {
     let name = name_of(alloc, b"v")?;
     let attribute = Attribute {
@@ -54,17 +57,13 @@ fn first() -> ChunkAt
     at
 }
 
-/// Adds the cell of a word.
-fn push_placed(chunk: &mut Chunk, word: &str) -> Result<(), Memory> {
-    let (place, held) = place_in(word);
-    chunk.positions.push(place.unsigned_abs())?;
-    let cell = cell_of(chunk.positions.allocator(), &[], held)?;
-    chunk.cells.push(cell)
-}
-
+/// Adds the cells of these words.
 fn push_all(chunk: &mut Chunk, words: &[&str]) -> Result<(), Memory> {
     for word in words {
-        push_placed(chunk, word)?;
+        let (place, held) = place_in(word);
+        chunk.positions.push(place.unsigned_abs())?;
+        let cell = cell_of(chunk.positions.allocator(), &[], held)?;
+        chunk.cells.push(cell)?;
     }
     Ok(())
 }

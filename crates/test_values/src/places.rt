@@ -7,14 +7,12 @@ ghost use Rattle.std.specs.Prelude.{◌≡◌, [], ◌∷◌, IfOk};
 ghost use Rattle.array_rows.specs.Boxes.{corners};
 ghost use Rattle.array_geom.specs.Inner.Example.{dimension, example};
 
-use crate::payloads::{chunk_in, push_read, push_spelled};
+use crate::payloads::{attributes, chunk_in, push_read, push_spelled};
 use crate::show::{push_box, push_chunk};
 use array_geom::{
     Boxes, Changed, Chunk, ChunkedArray, chunk_of, chunks_meeting, core_box, frame, place, position,
 };
-use cell_values::{
-    Attribute, Bounds, ChunkAt, Coord, Dimension, Kind, List, Memory, Name, Schema, coord_of,
-};
+use cell_values::{Bounds, ChunkAt, Coord, Dimension, List, Memory, Name, Schema, coord_of};
 use std::alloc::Global;
 use test_kit::{name_of, one_more, push_coord, push_number, push_word, push_words, truth_word};
 
@@ -28,18 +26,6 @@ fn dimension(name: Name, lo: i64, hi: i64, chunk: u64) -> Dimension
         chunk,
         overlap: 1,
     }
-}
-
-fn attributes(alloc: Global) -> Result<List<Attribute>, Memory>
-    ensures { IfOk result (λ attributes. attributes ≡ example.attributes) }
-{
-    let name = name_of(alloc, b"v")?;
-    let attribute = Attribute {
-        name,
-        kind: Kind::Int64,
-        nullable: true,
-    };
-    one_more(List::new(alloc), attribute)
 }
 
 fn dimensions(alloc: Global) -> Result<List<Dimension>, Memory>
@@ -164,21 +150,6 @@ fn push_boxes(out: &mut String) -> Result<(), Memory> {
     push_tests(out, &area, &moved)
 }
 
-/// One cell at place 7 of the last chunk.
-fn chunks(alloc: Global) -> Result<List<Chunk>, Memory> {
-    let chunk = chunk_in(alloc, numbers(1, 1), &["7:5"])?;
-    one_more(List::new(alloc), chunk)
-}
-
-fn array_of(schema: Schema, chunks: List<Chunk>) -> ChunkedArray {
-    ChunkedArray {
-        schema,
-        margins: numbers(1, 1),
-        chunks,
-        broken: None,
-    }
-}
-
 fn push_listed(out: &mut String, chunks: &[Chunk]) -> Result<(), Memory> {
     for chunk in chunks {
         push_chunk(out, chunk)?;
@@ -186,12 +157,18 @@ fn push_listed(out: &mut String, chunks: &[Chunk]) -> Result<(), Memory> {
     Ok(())
 }
 
-/// A copy of an array of one chunk.
+/// A copy of an array of one cell, at place 7 of the last chunk.
 fn copied_array(alloc: Global) -> Result<ChunkedArray, Memory> {
-    let chunks = chunks(alloc)?;
+    let chunk = chunk_in(alloc, numbers(1, 1), &["7:5"])?;
+    let chunks = one_more(List::new(alloc), chunk)?;
     match schema(alloc) {
         Ok(schema) => {
-            let array = array_of(schema, chunks);
+            let array = ChunkedArray {
+                schema,
+                margins: numbers(1, 1),
+                chunks,
+                broken: None,
+            };
             let copy = array.copy();
             drop(array);
             copy
@@ -200,15 +177,6 @@ fn copied_array(alloc: Global) -> Result<ChunkedArray, Memory> {
             drop(chunks);
             Err(Memory)
         }
-    }
-}
-
-/// A change of all chunks that are written.
-fn changed(array: ChunkedArray) -> Changed {
-    Changed {
-        schema: array.schema,
-        whole: true,
-        chunks: array.chunks,
     }
 }
 
@@ -226,7 +194,11 @@ fn push_changed(out: &mut String, changed: &Changed) -> Result<(), Memory> {
 fn push_copies(out: &mut String) -> Result<(), Memory> {
     let copy = copied_array(*out.allocator())?;
     let of_array = push_listed(out, copy.chunks.as_slice());
-    let changed = changed(copy);
+    let changed = Changed {
+        schema: copy.schema,
+        whole: true,
+        chunks: copy.chunks,
+    };
     let of_change = push_changed(out, &changed);
     drop(changed);
     of_array?;

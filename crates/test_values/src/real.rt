@@ -4,6 +4,7 @@
 //! a `|`. `shelf` is answered by how many of them could not be opened.
 
 use crate::disks::push_answers;
+use crate::objects::front_of;
 use crate::streams::{push_faults, push_reads, push_writes};
 use afl_outside::{Disk, Failed, Shelf};
 use cell_values::Memory;
@@ -63,13 +64,14 @@ fn push_disk<S: Shelf>(
 pub(crate) fn push_real<S: Shelf>(
     out: &mut String,
     shelf: &mut S,
-    object: &[&str],
+    object: &str,
     calls: &[&str],
 ) -> Result<(), Memory> {
-    match object {
-        ["source", name] => push_source(out, shelf, name, calls),
-        ["sink", name] => push_sink(out, shelf, name, calls),
-        ["disk", name] => push_disk(out, shelf, name, calls),
+    let (word, name) = front_of(object);
+    match word {
+        "source" => push_source(out, shelf, name, calls),
+        "sink" => push_sink(out, shelf, name, calls),
+        "disk" => push_disk(out, shelf, name, calls),
         _ => push_faults(out, shelf.faults(), shelf.wants()),
     }
 }

@@ -1,74 +1,63 @@
 //! Shelves.
 
-use crate::disks::push_plain;
-use crate::streams::{push_call, push_faults, push_held, push_read, push_write};
+use crate::disks::push_answer;
+use crate::objects::{front_of, numbers_in};
+use crate::streams::{push_faults, push_held, push_read, push_write};
 use afl_outside::{Disk, Failed, MemFile, MemShelf, MemSink, Shelf, Source};
 use cell_values::{List, Memory};
 use std::alloc::Global;
-use test_kit::{push_word, words_of};
+use test_kit::{push_word, push_words};
 
-fn file(alloc: Global, name: &[u8], content: &[u8], fails: &[u64]) -> Result<MemFile, Memory> {
-    Ok(MemFile {
-        name: List::from_slice(alloc, name)?,
-        content: List::from_slice(alloc, content)?,
-        fails: List::from_slice(alloc, fails)?,
-    })
-}
-
+/// Adds a copy of a file with a name, a content, and the number of the call that is to fail.
 fn push_file(
     files: &mut List<MemFile>,
-    name: &[u8],
-    content: &[u8],
-    fails: &[u64],
+    name: &str,
+    content: &str,
+    fail: u64,
 ) -> Result<(), Memory> {
-    let file = file(files.allocator(), name, content, fails)?;
+    let alloc = files.allocator();
+    let file = MemFile {
+        name: List::from_slice(alloc, name.as_bytes())?,
+        content: List::from_slice(alloc, content.as_bytes())?,
+        fails: List::from_slice(alloc, &[fail])?,
+    };
     let copy = file.copy();
     drop(file);
     files.push(copy?)
 }
 
-fn push_files(list: &mut List<MemFile>, files: &[(&str, &str, u64)]) -> Result<(), Memory> {
-    for (name, content, fail) in files {
-        push_file(list, name.as_bytes(), content.as_bytes(), &[*fail])?;
-    }
-    Ok(())
-}
-
-/// Files with a name, a content, and the number of the call that is to fail.
+/// Such files.
 fn files_of(alloc: Global, files: &[(&str, &str, u64)]) -> Result<List<MemFile>, Memory> {
     let mut list = List::new(alloc);
-    match push_files(&mut list, files) {
-        Ok(()) => Ok(list),
-        Err(Memory) => {
-            drop(list);
-            Err(Memory)
-        }
+    for (name, content, fail) in files {
+        push_file(&mut list, name, content, *fail)?;
     }
+    Ok(list)
 }
 
-fn push_reads<S: Source>(out: &mut String, source: &mut S, counts: &[&str]) -> Result<(), Memory> {
+fn push_reads<S: Source>(out: &mut String, source: &mut S, counts: &str) -> Result<(), Memory> {
     push_word(out, "opened")?;
-    for count in counts {
+    for count in counts.split_whitespace() {
         push_word(out, ", ")?;
         push_read(out, source, count)?;
     }
     Ok(())
 }
 
-fn push_writes(out: &mut String, sink: &mut MemSink, pieces: &[&str]) -> Result<(), Memory> {
+fn push_writes(out: &mut String, sink: &mut MemSink, pieces: &str) -> Result<(), Memory> {
     push_word(out, "opened, ")?;
-    for piece in pieces {
+    for piece in pieces.split_whitespace() {
         push_write(out, sink, piece)?;
         push_word(out, ", ")?;
     }
     push_held(out, sink.bytes())
 }
 
-fn push_answers<D: Disk>(out: &mut String, disk: &mut D, calls: &[&str]) -> Result<(), Memory> {
+fn push_answers<D: Disk>(out: &mut String, disk: &mut D, calls: &str) -> Result<(), Memory> {
     push_word(out, "opened")?;
-    for call in calls {
+    for call in calls.split_whitespace() {
         push_word(out, ", ")?;
-        push_plain(out, disk, call)?;
+        push_answer(out, disk, call)?;
     }
     Ok(())
 }
@@ -77,7 +66,7 @@ fn push_script(
     out: &mut String,
     shelf: &mut MemShelf,
     name: &str,
-    counts: &[&str],
+    counts: &str,
 ) -> Result<(), Memory> {
     match shelf.script(name) {
         Ok(mut source) => {
@@ -93,7 +82,7 @@ fn push_reply(
     out: &mut String,
     shelf: &mut MemShelf,
     name: &str,
-    pieces: &[&str],
+    pieces: &str,
 ) -> Result<(), Memory> {
     match shelf.reply(name) {
         Ok(mut sink) => {
@@ -109,7 +98,7 @@ fn push_device(
     out: &mut String,
     shelf: &mut MemShelf,
     name: &str,
-    calls: &[&str],
+    calls: &str,
 ) -> Result<(), Memory> {
     match shelf.device(name) {
         Ok(mut device) => {
@@ -121,24 +110,18 @@ fn push_device(
     }
 }
 
-/// Opens a file as its word says, and adds what it answers: reads of these lengths, pieces that are written, or calls of a
-/// disk.
-fn push_opened(out: &mut String, shelf: &mut MemShelf, words: &[&str]) -> Result<(), Memory> {
-    match words {
-        ["script", name, counts @ ..] => push_script(out, shelf, name, counts),
-        ["reply", name, pieces @ ..] => push_reply(out, shelf, name, pieces),
-        ["device", name, calls @ ..] => push_device(out, shelf, name, calls),
-        _ => Ok(()),
-    }
-}
-
+/// Opens files as the words of calls say, and adds what they answer: reads of these lengths, pieces that are written, or calls
+/// of a disk.
 fn push_lines(out: &mut String, shelf: &mut MemShelf, calls: &[&str]) -> Result<(), Memory> {
     for call in calls {
-        push_call(out, call)?;
-        let words = words_of(*out.allocator(), call)?;
-        let told = push_opened(out, shelf, words.as_slice());
-        drop(words);
-        told?;
+        push_words(out, &[call.trim(), ": "])?;
+        let (word, operands) = front_of(call);
+        let (name, operands) = front_of(operands);
+        match word {
+            "script" => push_script(out, shelf, name, operands)?,
+            "reply" => push_reply(out, shelf, name, operands)?,
+            _ => push_device(out, shelf, name, operands)?,
+        }
         push_word(out, "\n")?;
     }
     push_faults(out, shelf.faults(), shelf.wants())
@@ -146,11 +129,11 @@ fn push_lines(out: &mut String, shelf: &mut MemShelf, calls: &[&str]) -> Result<
 
 /// Adds what a shelf answers to calls: with the file `db` of the bytes `page`, whose call 1 fails, `s` with `a;`, whose call 0
 /// fails, and the reply `s.out` with `old:`, whose call 1 fails.
-pub(crate) fn push_shelf(out: &mut String, fails: List<u64>, calls: &[&str]) -> Result<(), Memory> {
+pub(crate) fn push_shelf(out: &mut String, fails: &str, calls: &[&str]) -> Result<(), Memory> {
     let alloc = *out.allocator();
     let files = files_of(alloc, &[("db", "page", 1), ("s", "a;", 0)])?;
     let replies = files_of(alloc, &[("s.out", "old:", 1)])?;
-    let mut shelf = MemShelf::new(files, replies, fails);
+    let mut shelf = MemShelf::new(files, replies, numbers_in(alloc, fails)?);
     let told = push_lines(out, &mut shelf, calls);
     drop(shelf);
     told

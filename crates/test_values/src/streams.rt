@@ -1,13 +1,8 @@
 //! Sources and sinks.
 
-use afl_outside::{Failed, MemSink, MemSource, Sink, Source, SureSink, SureSource};
-use cell_values::{Bytes, List, Memory};
+use afl_outside::{Failed, MemSink, Sink, Source, SureSink};
+use cell_values::Memory;
 use test_kit::{push_quoted, push_text, push_word, push_words};
-
-/// Adds the call that an answer belongs to.
-pub(crate) fn push_call(out: &mut String, call: &str) -> Result<(), Memory> {
-    push_words(out, &[call.trim(), ": "])
-}
 
 /// Adds how often calls failed, and how often there was no memory for one.
 pub(crate) fn push_faults(out: &mut String, faults: u64, wants: u64) -> Result<(), Memory> {
@@ -47,7 +42,7 @@ pub(crate) fn push_reads<S: Source>(
     calls: &[&str],
 ) -> Result<(), Memory> {
     for call in calls {
-        push_call(out, call)?;
+        push_words(out, &[call.trim(), ": "])?;
         push_read(out, source, call.trim().strip_prefix("read").unwrap_or(""))?;
         push_word(out, "\n")?;
     }
@@ -61,7 +56,7 @@ pub(crate) fn push_writes<S: Sink>(
     calls: &[&str],
 ) -> Result<(), Memory> {
     for call in calls {
-        push_call(out, call)?;
+        push_words(out, &[call.trim(), ": "])?;
         push_write(out, sink, call.trim().strip_prefix("write").unwrap_or(""))?;
         push_word(out, "\n")?;
     }
@@ -74,56 +69,24 @@ pub(crate) fn push_held(out: &mut String, bytes: &[u8]) -> Result<(), Memory> {
     push_quoted(out, bytes)
 }
 
-/// Adds what a source in memory answers to calls.
-pub(crate) fn push_source(
-    out: &mut String,
-    content: &str,
-    fails: List<u64>,
-    calls: &[&str],
-) -> Result<(), Memory> {
-    let content = Bytes::from_slice(*out.allocator(), content.as_bytes())?;
-    push_reads(out, &mut MemSource::new(content, fails), calls)
-}
-
-/// Adds what a source that never fails answers to calls.
-pub(crate) fn push_sure_source(
-    out: &mut String,
-    content: &str,
-    calls: &[&str],
-) -> Result<(), Memory> {
-    let content = Bytes::from_slice(*out.allocator(), content.as_bytes())?;
-    push_reads(out, &mut SureSource::new(content), calls)
-}
-
 /// Adds what a sink in memory answers to calls, and what it holds.
 pub(crate) fn push_sink(
     out: &mut String,
-    content: &str,
-    fails: List<u64>,
+    sink: &mut MemSink,
     calls: &[&str],
 ) -> Result<(), Memory> {
-    let content = Bytes::from_slice(*out.allocator(), content.as_bytes())?;
-    let mut sink = MemSink::new(content, fails);
-    let told = push_writes(out, &mut sink, calls);
-    let held = push_held(out, sink.bytes());
-    drop(sink);
-    told?;
-    held?;
+    push_writes(out, sink, calls)?;
+    push_held(out, sink.bytes())?;
     push_word(out, "\n")
 }
 
 /// Adds what a sink that never fails answers to calls, and what it holds.
 pub(crate) fn push_sure_sink(
     out: &mut String,
-    content: &str,
+    sink: &mut SureSink,
     calls: &[&str],
 ) -> Result<(), Memory> {
-    let content = Bytes::from_slice(*out.allocator(), content.as_bytes())?;
-    let mut sink = SureSink::new(content);
-    let told = push_writes(out, &mut sink, calls);
-    let held = push_held(out, sink.bytes());
-    drop(sink);
-    told?;
-    held?;
+    push_writes(out, sink, calls)?;
+    push_held(out, sink.bytes())?;
     push_word(out, "\n")
 }

@@ -1,15 +1,15 @@
-pub use Rattle.plan_changes.proofs.FitLaws
-pub use Rattle.plan_changes.proofs.Found
-pub use Rattle.plan_changes.proofs.Maps
-pub use Rattle.plan_changes.proofs.NamesOf
-pub use Rattle.plan_changes.proofs.Stays
-pub use Rattle.plan_changes.proofs.StoredLaws
 pub mod Arrays
+pub mod DirectoryLaws
+pub mod Kept
 pub mod Last
 pub mod Laws
 pub mod Loops
+pub mod Maps
 pub mod Pairs
 pub mod Putting
+pub mod Recorded
 pub mod RuleLaws
+pub mod Spelled
 pub mod Telling
 mod Worked
+mod WorkedDirectories

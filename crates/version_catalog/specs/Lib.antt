@@ -1,11 +1,9 @@
-pub use Rattle.plan_changes.specs.Allowed
-pub use Rattle.plan_changes.specs.Changes
 pub use Rattle.plan_changes.specs.Databases
-pub use Rattle.plan_changes.specs.NameEntry
-pub use Rattle.plan_changes.specs.Query
 pub use Rattle.plan_changes.specs.Stored
-pub use Rattle.plan_changes.specs.declared.change.Change
 pub mod Catalogs
+pub mod Changed
 pub mod Decoding
+pub mod Directories
+pub mod Records
 pub mod Spelling
 pub mod Table

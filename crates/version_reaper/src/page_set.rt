@@ -9,9 +9,14 @@ use std::marker::Model;
 
 /// A set of pages below a limit. Contracts see it as a list of as many truths as the limit says: whether it has page 0,
 /// page 1, and so on.
-#[derive(Drop)]
 pub struct PageSet {
     flags: List<bool>,
+}
+
+impl Drop for PageSet {
+    fn drop(self) {
+        let PageSet { flags: _ } = self;
+    }
 }
 
 impl Model for PageSet {

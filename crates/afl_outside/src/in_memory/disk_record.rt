@@ -11,11 +11,20 @@ use cell_values::{Bytes, List, Memory};
 use std::marker::Model;
 
 /// `over` holds the bytes once a write was done: a disk is made without new memory.
-#[derive(Drop)]
 pub(crate) struct DiskRecord {
     first: Bytes,
     over: Option<Vec<u8>>,
     calls: List<DeviceCall>,
+}
+
+impl Drop for DiskRecord {
+    fn drop(self) {
+        let DiskRecord {
+            first: _,
+            over: _,
+            calls: _,
+        } = self;
+    }
 }
 
 impl Model for DiskRecord {

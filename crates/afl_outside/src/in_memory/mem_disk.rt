@@ -15,13 +15,24 @@ use std::marker::Model;
 
 /// A disk in memory, some of whose calls fail. It keeps a record of all its calls, failed ones included. A write that the
 /// list lets fail has written all its bytes. A call that finds no memory changes no byte and isn't recorded.
-#[derive(Drop)]
 pub struct MemDisk {
     name: Bytes,
     kept: DiskRecord,
     fails: List<u64>,
     faults: u64,
     wants: u64,
+}
+
+impl Drop for MemDisk {
+    fn drop(self) {
+        let MemDisk {
+            name: _,
+            kept: _,
+            fails: _,
+            faults: _,
+            wants: _,
+        } = self;
+    }
 }
 
 impl Model for MemDisk {

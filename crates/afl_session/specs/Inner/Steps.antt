@@ -14,9 +14,9 @@ use Rattle.afl_session.specs.Acts.{acts_in}
 use Rattle.afl_session.specs.BehindPins.{ComesOver}
 use Rattle.snapshot_manager.specs.Start.{Start}
 use Rattle.afl_session.specs.Under.{SaysWhy}
-use Rattle.snapshot_manager.specs.declared.sources.marks.Marks.{Marks}
-use Rattle.snapshot_manager.specs.Courses.{AddsOwn}
-use Rattle.snapshot_manager.specs.Pinned.{pinned_state, reading_of, unread, HasRead}
+use Rattle.session_sources.specs.declared.marks.Marks.{Marks}
+use Rattle.session_sources.specs.Courses.{AddsOwn}
+use Rattle.session_sources.specs.Pinned.{pinned_state, reading_of, unread, HasRead}
 use Rattle.snapshot_manager.specs.declared.seat.Seat.{Seat}
 use Rattle.snapshot_manager.specs.declared.shared.Shared.{Shared}
 use Rattle.snapshot_manager.specs.Told.{ledger_of}

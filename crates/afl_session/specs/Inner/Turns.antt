@@ -26,8 +26,8 @@ use Rattle.snapshot_manager.specs.CommitFault.{CommitFault}
 use Rattle.snapshot_manager.specs.Starts.{start_of}
 use Rattle.snapshot_manager.specs.declared.seat.Seat.{Seat}
 use Rattle.snapshot_manager.specs.Seats.{store_of, HasTurn}
-use Rattle.snapshot_manager.specs.Held.{held_state, holding_of, names_now, unheld, HasHeld}
-use Rattle.snapshot_manager.specs.declared.sources.marks.Marks.{Marks}
+use Rattle.session_sources.specs.Held.{held_state, holding_of, names_now, unheld, HasHeld}
+use Rattle.session_sources.specs.declared.marks.Marks.{Marks}
 use Rattle.afl_session.specs.Refusals.{IsUncommittedReply, IsUnreadReply, IsWant}
 use Rattle.afl_session.specs.BehindPins.{ComesOver}
 use Rattle.afl_session.specs.Replies.{words_of}

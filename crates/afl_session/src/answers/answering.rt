@@ -13,7 +13,7 @@ use crate::replies::{Reply, refusal_at, refusal_or_want, want};
 use crate::turns::Options;
 use afl_outside::{Disk, Gate, Point};
 use afl_parser::{ParseFault, parse};
-use afl_trees::Tree;
+use afl_trees::{Tree, let_go_tree};
 use result_print::Refusal;
 use snapshot_manager::{Seat, Shared};
 use std::alloc::Global;
@@ -79,7 +79,11 @@ fn answer_text<D: Disk, R: Threads + Wait + Sync, G: Gate>(
         (read_count seat) (read_count result.1) }
 {
     match parse(alloc, text) {
-        Ok(tree) => answer_tree(rt, alloc, shared, seat, text, &tree, number, options, gate),
+        Ok(tree) => {
+            let answer = answer_tree(rt, alloc, shared, seat, text, &tree, number, options, gate);
+            let_go_tree(tree);
+            answer
+        }
         Err(ParseFault::At { at, kind }) => {
             let last = seat.last();
             let count = seat.seen();

@@ -21,7 +21,7 @@ use afl_trees::Tree;
 use array_geom::Changed;
 use plan_changes::Change;
 use snapshot_manager::{Commit, Seat, Shared};
-use statement_replies::Reply as Words;
+use statement_replies::{Reply as Words, let_go_reply};
 use std::alloc::Global;
 use std::sync::Wait;
 use std::thread::Threads;
@@ -67,13 +67,13 @@ pub(crate) fn commit<D: Disk, R: Threads + Wait + Sync, G: Gate>(
     match shared.commit(rt, alloc, &mut seat, pinned, change, changed) {
         Ok(Commit::Done { place }) => (at_place(words, place), seat),
         Ok(Commit::Stale(turn)) => {
-            drop(words);
+            let_go_reply(words);
             answer_held(
                 rt, alloc, shared, seat, turn, pinned, text, tree, options, gate,
             )
         }
         Err(fault) => {
-            drop(words);
+            let_go_reply(words);
             let seen = seat.seen();
             (uncommitted(alloc, fault, seen), seat)
         }

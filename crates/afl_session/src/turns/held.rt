@@ -11,7 +11,7 @@ ghost use Rattle.store_state.specs.At.{standing};
 ghost use Rattle.store_state.specs.Events.{events};
 ghost use Rattle.snapshot_manager.specs.Starts.{start_of};
 ghost use Rattle.snapshot_manager.specs.Databases.{HasDatabase};
-ghost use Rattle.snapshot_manager.specs.Held.{names_now};
+ghost use Rattle.session_sources.specs.Held.{names_now};
 ghost use Rattle.snapshot_manager.specs.Prepared.{IsAsked};
 ghost use Rattle.snapshot_manager.specs.Seats.{ledger_seen, read_count, seen, start, store_of, HasTurn, HoldsPin, IsIdle, IsSameSeat, IsSeatOf};
 ghost use Rattle.snapshot_manager.specs.Told.{IsTold};
@@ -26,8 +26,9 @@ use array_geom::Changed;
 use cell_values::Memory;
 use logical_plan::Names;
 use plan_changes::Change;
-use snapshot_manager::{CommitFault, HeldSource, Seat, Shared, StoreTurn, commit};
-use statement_replies::{Outcome, Reply as Words, outcome_of};
+use session_sources::HeldSource;
+use snapshot_manager::{CommitFault, Seat, Shared, StoreTurn, commit};
+use statement_replies::{Outcome, Reply as Words, let_go_reply, outcome_of};
 use std::alloc::Global;
 use std::sync::Wait;
 use std::thread::Threads;
@@ -187,7 +188,7 @@ fn tell_commit(alloc: Global, answer: Result<u64, CommitFault>, words: Words, co
     match answer {
         Ok(place) => at_place(words, place),
         Err(fault) => {
-            drop(words);
+            let_go_reply(words);
             uncommitted(alloc, fault, count)
         }
     }

@@ -15,10 +15,15 @@ use std::alloc::Global;
 use std::marker::Model;
 
 /// Cells. Contracts see the list of them.
-#[derive(Drop)]
 pub struct Cells {
     alloc: Global,
     form: Form,
+}
+
+impl Drop for Cells {
+    fn drop(self) {
+        let Cells { alloc: _, form: _ } = self;
+    }
 }
 
 impl Model for Cells {

@@ -18,9 +18,14 @@ pub enum Held {
 }
 
 /// The values of an attribute. Contracts see the list of them; while all are numbers each takes eight bytes.
-#[derive(Drop)]
 pub struct Column {
     held: Held,
+}
+
+impl Drop for Column {
+    fn drop(self) {
+        let Column { held: _ } = self;
+    }
 }
 
 impl Model for Column {
@@ -58,9 +63,9 @@ fn push_held(held: &mut Held, value: Datum) -> Result<(), Memory>
     ensures { OnOk result (values_in held.new ≡ values_in held.old ++ value ∷ []) }
 {
     match held {
-        Held::Numbers(numbers) => match value {
-            Datum::Int(number) => numbers.push(number),
-            value => {
+        Held::Numbers(numbers) => match &value {
+            Datum::Int(number) => numbers.push(*number),
+            _ => {
                 let more = general_more(numbers, value)?;
                 *held = more;
                 Ok(())

@@ -15,10 +15,18 @@ use std::alloc::Global;
 use std::marker::Model;
 
 /// Rows of values. Contracts see the list of them; each place of a row has a column.
-#[derive(Drop)]
 pub struct Rows {
     count: usize,
     columns: Vec<Column>,
+}
+
+impl Drop for Rows {
+    fn drop(self) {
+        let Rows {
+            count: _,
+            columns: _,
+        } = self;
+    }
 }
 
 impl Model for Rows {

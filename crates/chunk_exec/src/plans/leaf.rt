@@ -11,8 +11,7 @@ ghost use Rattle.chunk_exec.specs.Inner.Operated.{sources};
 use crate::plans::given::{build, literal};
 use array_geom::ChunkedArray;
 use cell_values::Bounds;
-use chunk_source::{ChunkSource, ExecFault};
-use leaf_parts::read_part;
+use chunk_source::{ChunkSource, ExecFault, read_part};
 use logical_plan::{Leaf, Plan, PlanNode};
 use std::alloc::Global;
 

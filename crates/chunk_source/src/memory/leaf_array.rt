@@ -6,10 +6,15 @@ use array_geom::ChunkedArray;
 use logical_plan::Leaf;
 
 /// A version of a stored array, and its chunks.
-#[derive(Drop)]
 pub struct LeafArray {
     pub leaf: Leaf,
     pub array: ChunkedArray,
+}
+
+impl Drop for LeafArray {
+    fn drop(self) {
+        let LeafArray { leaf: _, array: _ } = self;
+    }
 }
 
 /// Whether the array is this version of this name.

@@ -13,10 +13,18 @@ use logical_plan::Leaf;
 use std::marker::Model;
 
 /// A source over arrays in memory, which it tells.
-#[derive(Drop)]
 pub struct SureChunks {
     arrays: List<LeafArray>,
     asked: List<Asked>,
+}
+
+impl Drop for SureChunks {
+    fn drop(self) {
+        let SureChunks {
+            arrays: _,
+            asked: _,
+        } = self;
+    }
 }
 
 impl Model for SureChunks {

@@ -1,19 +1,21 @@
 //! The group of all cells of a chunk's core, from its columns: no list of values is made for a cell.
 ghost use Rattle.std.specs.Prelude.{◌≡◌, ◌≤◌, ◌<◌, ◌^◌, ◌∷◌, ◌&&◌, [], ℕ, true, pos, map, length, replicate, IsTrue, IfOk, IfSome};
 ghost use Rattle.std.specs.List.{AllByRecursion};
-ghost use Rattle.array_rows.specs.Boxes.{is_inside};
+ghost use Rattle.array_rows.specs.Boxes.{bounds_of, is_inside};
+ghost use Rattle.array_rows.specs.Rows.{Coordinate};
 ghost use Rattle.array_geom.specs.Geometry.{coordinate_in, volume};
 ghost use Rattle.array_geom.specs.Inner.Ranges.{IsGrid};
 ghost use Rattle.array_parts.specs.Cores.{HaveCells};
 ghost use Rattle.group_rows.specs.Counts.{cells_in};
 ghost use Rattle.group_rows.specs.Grouped.{AreGroupsOf};
 ghost use Rattle.group_rows.specs.Inner.Keys.{aggregate_sets, core_of};
-ghost use Rattle.group_rows.specs.Sets.{one_set};
+ghost use Rattle.group_rows.specs.Inner.Places.{HasKey, key_of};
+ghost use Rattle.group_rows.specs.Sets.{one_set, sets_by};
 
 use array_geom::{Chunk, Grid, core_box, grid_of};
 use array_rows::{Cells, is_in_box};
 use cell_values::{Bounds, Coord, List, Margins, Memory, Schema};
-use group_rows::{Groups, one_of_columns, zero};
+use group_rows::{Grouping, Groups, groups_of_places, one_of_columns, zero};
 use logical_plan::Aggregate;
 
 /// Whether cells can be counted.
@@ -97,7 +99,38 @@ fn group_of_core(
     one_of_columns(alloc, aggs, &zero(), &chunk.cells, inside.as_slice())
 }
 
-/// The groups of a chunk's core from its columns, where no dimension is named.
+/// The groups of the cells of a chunk's core. More cells than can be counted are as good as no memory.
+pub(crate) fn groups_of_core(
+    schema: &Schema,
+    margins: &Margins,
+    chunk: &Chunk,
+    aggs: &[Aggregate],
+    grouping: &Grouping<'_>,
+) -> Result<Groups, Memory>
+    requires cells { HaveCells schema.now margins.now.items (chunk.now ∷ []) }
+    requires keyed { (c : Coordinate) → IsTrue (is_inside (bounds_of schema.now.dimensions) c) → HasKey grouping.now c }
+    ensures groups { IfOk result (λ part.
+        AreGroupsOf aggs.now (sets_by (key_of grouping.now) (core_of schema.now.dimensions margins.now.items chunk.now)) part.groups) }
+    ensures cells { IfOk result (λ part. cells_in part.groups ≤ length (core_of schema.now.dimensions margins.now.items chunk.now)) }
+{
+    if !are_few(&chunk.cells) {
+        return Err(Memory);
+    }
+    let grid = grid_of(schema, margins, &chunk.at);
+    let core = core_box(schema, &chunk.at);
+    let inside = places_inside(&grid, &core, &chunk.positions)?;
+    groups_of_places(
+        chunk.positions.allocator(),
+        aggs,
+        grouping,
+        &grid,
+        chunk.positions.as_slice(),
+        &chunk.cells,
+        inside.as_slice(),
+    )
+}
+
+/// The groups of a chunk's core from its columns: without names where all values of each aggregate are kept as numbers.
 pub(crate) fn part_of_columns(
     schema: &Schema,
     margins: &Margins,
@@ -105,7 +138,8 @@ pub(crate) fn part_of_columns(
     aggs: &[Aggregate],
     dims: &[u32],
 ) -> Result<Option<Groups>, Memory>
-    requires { HaveCells schema.now margins.now.items (chunk.now ∷ []) }
+    requires cells { HaveCells schema.now margins.now.items (chunk.now ∷ []) }
+    requires names { length dims.now ≤ 6 }
     ensures groups { IfOk result (λ found. IfSome found (λ part.
         AreGroupsOf aggs.now (aggregate_sets dims.now (core_of schema.now.dimensions margins.now.items chunk.now)) part.groups)) }
     ensures cells { IfOk result (λ found. IfSome found (λ part.
@@ -113,6 +147,10 @@ pub(crate) fn part_of_columns(
 {
     match dims {
         [] => group_of_core(schema, margins, chunk, aggs),
-        [_, ..] => Ok(None),
+        [_, ..] => {
+            let grouping = Grouping::Named(dims);
+            let groups = groups_of_core(schema, margins, chunk, aggs, &grouping)?;
+            Ok(Some(groups))
+        }
     }
 }

@@ -5,11 +5,11 @@ ghost use Rattle.group_rows.specs.Counts.{cells_in};
 ghost use Rattle.group_rows.specs.Grouped.{AreGroupsOf};
 ghost use Rattle.group_rows.specs.Inner.Keys.{core_of, aggregate_sets, regrid_sets};
 
-use crate::parts::columns::part_of_columns;
+use crate::parts::columns::{groups_of_core, part_of_columns};
 use crate::parts::cores::rows_of_core;
 use array_geom::Chunk;
 use cell_values::{Margins, Memory, Schema};
-use group_rows::{Groups, aggregate_groups, regrid_groups};
+use group_rows::{Grouping, Groups, aggregate_groups};
 use logical_plan::Aggregate;
 
 /// The groups of a chunk's core from its rows.
@@ -64,6 +64,6 @@ pub fn regrid_part(
     ensures groups { IfOk result (λ part. AreGroupsOf aggs.now (regrid_sets schema.now.dimensions blocks.now (core_of schema.now.dimensions margins.now.items chunk)) part.groups) }
     ensures cells { IfOk result (λ part. cells_in part.groups ≤ length (core_of schema.now.dimensions margins.now.items chunk)) }
 {
-    let rows = rows_of_core(schema, margins, chunk)?;
-    regrid_groups(schema, &rows, blocks, aggs)
+    let grouping = Grouping::Blocks(schema.dimensions.as_slice(), blocks);
+    groups_of_core(schema, margins, &chunk, aggs, &grouping)
 }

@@ -10,7 +10,7 @@ use Rattle.page_chain.specs.declared.fault.OpenCause.TheVariants.{Disk, NotDatab
 use Rattle.version_catalog.specs.declared.rules.catalog.Catalog.{Catalog}
 use Rattle.version_catalog.specs.declared.rules.catalog_record.CatalogRecord.{CatalogRecord}
 use Rattle.version_catalog.specs.Table.{catalog_in, record_in}
-use Rattle.catalog_changes.specs.Records.{after_record}
+use Rattle.version_catalog.specs.Records.{after_record}
 use Rattle.file_meaning.specs.Opening.{blamed, if_allowed, Logged}
 
 -- the base's chain, and the catalogue that it spells

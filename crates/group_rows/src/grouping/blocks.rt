@@ -49,7 +49,7 @@ fn push_blocks(out: &mut Coord, dims: &[Dimension], sizes: &[u64], at: &[i64])
     }
 }
 
-fn block_key(dims: &[Dimension], sizes: &[u64], at: &Coord) -> Coord
+pub(crate) fn block_key(dims: &[Dimension], sizes: &[u64], at: &Coord) -> Coord
     requires few { length dims.now ≤ 6 }
     requires near { AreNear dims.now }
     requires inside { IsTrue (is_inside (bounds_of dims.now) at.now.items) }

@@ -13,7 +13,7 @@ pub fn zero() -> Coord
 }
 
 /// The numbers of a coordinate in these dimensions.
-fn named_key(dims: &[u32], at: &Coord) -> Coord
+pub(crate) fn named_key(dims: &[u32], at: &Coord) -> Coord
     requires { length dims.now ≤ 6 }
     ensures { result.items ≡ numbers_at dims.now at.now.items }
 {

@@ -39,7 +39,7 @@ pub fn one_group(
 }
 
 /// Whether a coordinate is this one.
-fn is_at(key: &Coord, at: &Coord) -> bool
+pub(crate) fn is_at(key: &Coord, at: &Coord) -> bool
     ensures { result ≡ is_eq (row_major key.now.items at.now.items) }
 {
     row_major(key, at).is_eq()

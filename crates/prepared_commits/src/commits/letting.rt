@@ -1,12 +1,6 @@
 //! What is let go. That each can be let go is proved here once, and not again in each crate that calls this.
 
-use array_geom::Changed;
 use plan_changes::{Change, let_go_change};
-
-/// Lets the chunks of a change go.
-pub fn let_go_changed(changed: Option<Changed>) {
-    drop(changed);
-}
 
 /// Lets a change go that may be in doubt.
 pub fn let_go_doubt(doubt: Option<Change>) {

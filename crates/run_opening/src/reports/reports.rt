@@ -13,7 +13,6 @@ pub struct Streams<S, K> {
 }
 
 /// What became of a statement.
-#[derive(Drop)]
 pub struct Mark {
     /// Its first byte's place in the script.
     pub start: u64,
@@ -22,6 +21,17 @@ pub struct Mark {
     /// How many entries of the history its reply rests on.
     pub place: u64,
     pub refusal: Option<Refusal>,
+}
+
+impl Drop for Mark {
+    fn drop(self) {
+        let Mark {
+            start: _,
+            end: _,
+            place: _,
+            refusal: _,
+        } = self;
+    }
 }
 
 /// How a session ended.
@@ -38,11 +48,21 @@ pub enum SessionEnd {
 }
 
 /// A session at its end.
-#[derive(Drop)]
 pub struct SessionReport<S, K> {
     pub source: S,
     pub sink: K,
     /// The marks of the statements that were answered, in order.
     pub marks: List<Mark>,
     pub end: SessionEnd,
+}
+
+impl<S: Drop, K: Drop> Drop for SessionReport<S, K> {
+    fn drop(self) {
+        let SessionReport {
+            source: _,
+            sink: _,
+            marks: _,
+            end: _,
+        } = self;
+    }
 }

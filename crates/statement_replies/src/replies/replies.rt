@@ -13,6 +13,11 @@ pub struct Reply {
     pub refusal: Option<Refusal>,
 }
 
+/// Lets a reply go. That it can be let go is proved here once, and not again in each crate that calls this.
+pub fn let_go_reply(reply: Reply) {
+    drop(reply);
+}
+
 /// The reply that refuses.
 pub fn refuse(alloc: Global, refusal: Refusal) -> Result<Reply, Memory>
     ensures { IfOk result (λ reply. reply ≡ refused refusal) }

@@ -3,10 +3,11 @@
 use cell_values::Memory;
 use std::alloc::Global;
 use store_opening::Limits;
+use test_disks::{Watch, count_of, limits_of, new_database, old_database, pair_of, push_costs};
 use test_kit::{disk_of, push_hex, push_word};
-use test_stores::{Watch, count_of, limits_of, new_database, old_database, pair_of, push_costs};
 
 /// A disk that is watched, and how much a store over it may use.
+#[derive(Drop)]
 pub(crate) struct Bench {
     pub(crate) watch: Watch,
     pub(crate) limits: Limits,
@@ -36,29 +37,10 @@ impl Bench {
         })
     }
 
-    /// Lets it go.
-    pub(crate) fn let_go(self) {
-        let Bench {
-            watch,
-            limits: _limits,
-            told: _told,
-        } = self;
-        watch.let_go();
-    }
-
-    /// Adds what the disk's calls cost since that was told.
-    fn push_calls(&mut self, out: &mut String) -> Result<(), Memory> {
-        push_costs(out, &self.watch, self.told)?;
-        self.told = self.watch.count();
-        push_word(out, "\n")
-    }
-
     /// Adds so many bytes of the disk from a place on.
     fn push_bytes(&self, out: &mut String, at: u32, count: u32) -> Result<(), Memory> {
         let bytes = self.watch.bytes()?;
-        let told = push_hex(out, part_of(bytes.as_slice(), at as usize, count as usize));
-        drop(bytes);
-        told?;
+        push_hex(out, part_of(bytes.as_slice(), at as usize, count as usize))?;
         push_word(out, "\n")
     }
 
@@ -67,7 +49,11 @@ impl Bench {
         let (word, text) = line.split_once(' ').unwrap_or((line, ""));
         let (number, count) = pair_of(text);
         match word {
-            "calls" => self.push_calls(out)?,
+            "calls" => {
+                push_costs(out, &self.watch, self.told)?;
+                self.told = self.watch.count();
+                push_word(out, "\n")?;
+            }
             "mark" => self.told = self.watch.count(),
             "fail" => self.watch.fail(u64::from(number)),
             "bytes" => self.push_bytes(out, number, count)?,

@@ -2,12 +2,12 @@
 
 use crate::commits::moments::{LIMITS, Versions, push_moments};
 use cell_values::{Bytes, Memory};
-use std::alloc::{AllocError, Global};
+use std::alloc::Global;
 use std::thread::Threads;
-use test_kit::{disk_of, push_word, push_words};
-use test_stores::{
-    QuietDisk, held_in, new_database, old_database, push_answered, push_numbered, with_change,
+use test_disks::{
+    QuietDisk, answered, held_in, new_database, old_database, push_numbered, with_change,
 };
+use test_kit::{disk_of, push_word, push_words};
 
 /// A file, a change of it, and what it holds before and after that.
 #[derive(Drop)]
@@ -30,26 +30,6 @@ fn versions_of<R: Threads + Sync>(
     Ok(Versions { before, after })
 }
 
-/// A change of a file.
-fn case_of<'a, R: Threads + Sync>(
-    rt: &R,
-    alloc: Global,
-    file: Bytes,
-    change: &'a str,
-) -> Result<Case<'a>, Memory> {
-    match versions_of(rt, alloc, &file, change) {
-        Ok(versions) => Ok(Case {
-            file,
-            change,
-            versions,
-        }),
-        Err(Memory) => {
-            drop(file);
-            Err(Memory)
-        }
-    }
-}
-
 /// Adds what the change is answered where the call of this number fails, and what a stop behind each of its calls leaves. How many calls
 /// there were is the answer.
 fn push_attempt<R: Threads + Sync>(
@@ -61,20 +41,15 @@ fn push_attempt<R: Threads + Sync>(
     let alloc = *out.allocator();
     let disk = disk_of(alloc, case.file.copy()?, fails)?;
     let (disk, watch) = QuietDisk::watched(alloc, disk)?;
-    let told = match push_answered(rt, out, disk, LIMITS, case.change.as_bytes()) {
-        Ok(()) => push_moments(out, &watch, &case.versions),
-        Err(Memory) => Err(Memory),
-    };
-    watch.let_go();
-    told
+    answered(rt, alloc, disk, LIMITS, case.change).tell(out)?;
+    push_moments(out, &watch, &case.versions)
 }
 
 fn push_range(out: &mut String, from: usize, to: usize, told: &str) -> Result<(), Memory> {
     if from == to {
         push_numbered(out, "call ", from as u64, " fails: ")?;
     } else {
-        push_numbered(out, "calls ", from as u64, " to ")?;
-        push_numbered(out, "", to as u64, " fail, each alone: ")?;
+        write!(out, "calls {from} to {to} fail, each alone: ")?;
     }
     push_word(out, told)
 }
@@ -86,13 +61,8 @@ fn told_failing<R: Threads + Sync>(
     call: u64,
 ) -> Result<String, Memory> {
     let mut told = String::new(alloc);
-    match push_attempt(rt, &mut told, case, Some(call)) {
-        Ok(_) => Ok(told),
-        Err(Memory) => {
-            drop(told);
-            Err(Memory)
-        }
-    }
+    push_attempt(rt, &mut told, case, Some(call))?;
+    Ok(told)
 }
 
 /// Adds what comes of the change where each of so many calls fails. Calls of which the same comes are told at once.
@@ -115,17 +85,6 @@ fn push_failing<R: Threads + Sync>(
     push_range(out, from, calls.saturating_sub(1), told.as_str())
 }
 
-fn push_case<R: Threads + Sync>(
-    rt: &R,
-    out: &mut String,
-    title: &str,
-    case: &Case<'_>,
-) -> Result<(), Memory> {
-    push_words(out, &["## ", title, "\nno call fails: "])?;
-    let calls = push_attempt(rt, out, case, None)?;
-    push_failing(rt, out, case, calls)
-}
-
 /// Adds what comes of a change of a file.
 fn push_change<R: Threads + Sync>(
     rt: &R,
@@ -134,10 +93,15 @@ fn push_change<R: Threads + Sync>(
     file: Bytes,
     change: &str,
 ) -> Result<(), Memory> {
-    let case = case_of(rt, *out.allocator(), file, change)?;
-    let told = push_case(rt, out, title, &case);
-    drop(case);
-    told
+    let versions = versions_of(rt, *out.allocator(), &file, change)?;
+    let case = Case {
+        file,
+        change,
+        versions,
+    };
+    push_words(out, &["## ", title, "\nno call fails: "])?;
+    let calls = push_attempt(rt, out, &case, None)?;
+    push_failing(rt, out, &case, calls)
 }
 
 const FIRST: &str = "store(build(<v:int64>[i=0:2,2,0], i), A)";
@@ -146,35 +110,12 @@ const SECOND: &str = "store(build(<v:int64>[i=0:2,2,0], i+10), A)";
 
 const CREATED: &str = "create array B <v:int64>[i=0:0,1,0]";
 
-/// A database with the first version of A.
-fn first<R: Threads + Sync>(rt: &R, alloc: Global) -> Result<Bytes, Memory> {
-    with_change(rt, alloc, new_database(alloc)?, FIRST)
-}
-
-fn with_array<R: Threads + Sync>(
-    rt: &R,
-    alloc: Global,
-    file: Bytes,
-    number: u32,
-) -> Result<Bytes, Memory> {
-    match format!(in alloc; "create array A{number} <v:int64>[i=0:0,1,0]") {
-        Ok(change) => {
-            let behind = with_change(rt, alloc, file, change.as_str());
-            drop(change);
-            behind
-        }
-        Err(AllocError) => {
-            drop(file);
-            Err(Memory)
-        }
-    }
-}
-
-/// One in whose log no entry is left.
+/// A database in whose log no entry is left.
 fn with_full_log<R: Threads + Sync>(rt: &R, alloc: Global) -> Result<Bytes, Memory> {
     let mut file = new_database(alloc)?;
     for number in 0..64u32 {
-        file = with_array(rt, alloc, file, number)?;
+        let change = format!(in alloc; "create array A{number} <v:int64>[i=0:0,1,0]")?;
+        file = with_change(rt, alloc, file, change.as_str())?;
     }
     Ok(file)
 }
@@ -182,17 +123,13 @@ fn with_full_log<R: Threads + Sync>(rt: &R, alloc: Global) -> Result<Bytes, Memo
 /// Adds each case.
 pub(crate) fn push_cases<R: Threads + Sync>(rt: &R, out: &mut String) -> Result<(), Memory> {
     let alloc = *out.allocator();
+    let first = with_change(rt, alloc, new_database(alloc)?, FIRST)?;
+    push_change(rt, out, SECOND, first.copy()?, SECOND)?;
+    let second = with_change(rt, alloc, first, SECOND)?;
     let removal = "remove_versions(A, 2)";
-    let migration = "the first commit to a file of format 1";
-    push_change(rt, out, SECOND, first(rt, alloc)?, SECOND)?;
-    let second = with_change(rt, alloc, first(rt, alloc)?, SECOND)?;
     push_change(rt, out, removal, second, removal)?;
-    push_change(
-        rt,
-        out,
-        "the 65th commit",
-        with_full_log(rt, alloc)?,
-        CREATED,
-    )?;
+    let full = with_full_log(rt, alloc)?;
+    push_change(rt, out, "the 65th commit", full, CREATED)?;
+    let migration = "the first commit to a file of format 1";
     push_change(rt, out, migration, old_database(alloc)?, CREATED)
 }

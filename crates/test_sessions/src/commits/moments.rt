@@ -3,8 +3,8 @@
 use cell_values::{Bytes, Memory};
 use std::alloc::Global;
 use store_opening::Limits;
+use test_disks::{Watch, held_in};
 use test_kit::push_words;
-use test_stores::{Watch, held_in};
 
 /// How much the stores may use.
 pub(crate) const LIMITS: Limits = Limits {
@@ -34,16 +34,6 @@ fn is_same(one: &Option<Bytes>, other: &Option<Bytes>) -> bool {
     }
 }
 
-fn add(seen: &mut Seen, versions: &Versions, held: &Option<Bytes>) {
-    if is_same(held, &versions.before) {
-        seen.old = true;
-    } else if is_same(held, &versions.after) {
-        seen.new = true;
-    } else {
-        seen.other = true;
-    }
-}
-
 /// Adds what an image opens as.
 fn add_image(
     seen: &mut Seen,
@@ -52,8 +42,13 @@ fn add_image(
     versions: &Versions,
 ) -> Result<(), Memory> {
     let held = held_in(alloc, image, LIMITS)?;
-    add(seen, versions, &held);
-    drop(held);
+    if is_same(&held, &versions.before) {
+        seen.old = true;
+    } else if is_same(&held, &versions.after) {
+        seen.new = true;
+    } else {
+        seen.other = true;
+    }
     Ok(())
 }
 
@@ -96,7 +91,7 @@ pub(crate) fn push_moments(
     let count = watch.count();
     push_words(out, &[" "])?;
     for calls in 0..count.saturating_add(1) {
-        if calls == 0 || watch.is_moment(calls) {
+        if watch.patterns(calls) > 0 {
             push_seen(out, seen_behind(*out.allocator(), watch, versions, calls)?)?;
         }
     }

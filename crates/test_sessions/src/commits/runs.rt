@@ -5,13 +5,13 @@
 //! `pin 0`, `unpin 0`, `change 0 TEXT`, `cells 0 A@1` and `versions 0 A` are steps of a session, 0 or 1; `create 5 9` are a pin of session
 //! 0, a change that creates `A5`, and an unpin, and so on up to `A8`. `reap` and `counts` are about all. `calls` tells what the disk's calls
 //! since the last such line, or `mark`, cost, `fail 3` that the third call from now fails, and `bytes 512 8` which bytes stand at a place.
-ghost use Rattle.test_stores.specs.Pairs.{IsPair};
+ghost use Rattle.test_disks.specs.Pairs.{IsPair};
 
 use crate::commits::bench::Bench;
 use cell_values::Memory;
 use std::thread::Threads;
+use test_disks::{SessionPair, answer_of_pair, pair_over, push_counts};
 use test_kit::{push_word, push_words};
-use test_stores::{SessionPair, answer_of_pair, pair_over, push_counts};
 
 /// Adds a line with its answer.
 fn push_line<R: Threads + Sync>(
@@ -61,31 +61,9 @@ fn push_store<R: Threads + Sync>(
 ) -> Result<(), Memory> {
     push_words(out, &["> ", line, "\n"])?;
     match pair_over(*out.allocator(), &bench.watch, bench.limits) {
-        Ok(mut pair) => {
-            let told = push_steps(rt, out, bench, &mut pair, steps);
-            pair.let_go();
-            told
-        }
+        Ok(mut pair) => push_steps(rt, out, bench, &mut pair, steps),
         Err(answer) => answer.tell(out),
     }
-}
-
-/// Adds the lines over one disk, with their answers.
-fn push_stores<R: Threads + Sync>(
-    rt: &R,
-    out: &mut String,
-    bench: &mut Bench,
-    line: &str,
-    steps: &str,
-) -> Result<(), Memory> {
-    for (place, steps) in steps.split("open\n").enumerate() {
-        if place == 0 {
-            push_store(rt, out, bench, line, steps)?;
-        } else {
-            push_store(rt, out, bench, "open", steps)?;
-        }
-    }
-    Ok(())
 }
 
 /// Adds a title, and the lines behind it, with their answers.
@@ -98,9 +76,14 @@ fn push_run<R: Threads + Sync>(
     push_words(out, &["## ", title, "\n"])?;
     let (line, steps) = lines.split_once('\n').unwrap_or((lines, ""));
     let mut bench = Bench::of(*out.allocator(), line)?;
-    let told = push_stores(rt, out, &mut bench, line, steps);
-    bench.let_go();
-    told
+    for (place, steps) in steps.split("open\n").enumerate() {
+        if place == 0 {
+            push_store(rt, out, &mut bench, line, steps)?;
+        } else {
+            push_store(rt, out, &mut bench, "open", steps)?;
+        }
+    }
+    Ok(())
 }
 
 /// Adds the lines of a text with their answers.

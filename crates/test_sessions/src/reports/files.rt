@@ -34,22 +34,6 @@ fn one_file(
     Ok(files)
 }
 
-fn streams_over(
-    alloc: Global,
-    script: &[u8],
-    reads: &[u64],
-    writes: &[u64],
-) -> Result<MemShelf, Memory> {
-    let scripts = one_file(alloc, b"-", script, reads)?;
-    match one_file(alloc, b"-", b"", writes) {
-        Ok(replies) => Ok(MemShelf::new(scripts, replies, List::new(alloc))),
-        Err(Memory) => {
-            drop(scripts);
-            Err(Memory)
-        }
-    }
-}
-
 /// The standard streams over the script that a text stands for, where the listed reads and writes fail.
 pub(crate) fn streams_of(
     alloc: Global,
@@ -58,25 +42,17 @@ pub(crate) fn streams_of(
     writes: &[u64],
 ) -> Result<MemShelf, Memory> {
     let script = script_of(alloc, text)?;
-    let streams = streams_over(alloc, script.as_bytes(), reads, writes);
+    let scripts = one_file(alloc, b"-", script.as_bytes(), reads)?;
     drop(script);
-    streams
+    let replies = one_file(alloc, b"-", b"", writes)?;
+    Ok(MemShelf::new(scripts, replies, List::new(alloc)))
 }
 
 /// A device of the name `db` with so many zero bytes, whose listed calls fail.
 pub(crate) fn device_of(alloc: Global, length: usize, fails: &[u64]) -> Result<MemShelf, Memory> {
     let zeros = vec![in alloc; 0u8; length]?;
-    let device = one_file(alloc, b"db", zeros.as_slice(), fails);
-    drop(zeros);
-    Ok(MemShelf::new(device?, List::new(alloc), List::new(alloc)))
-}
-
-/// Adds the script of this name that a text stands for.
-fn push_script(files: &mut List<MemFile>, name: &str, text: &str) -> Result<(), Memory> {
-    let script = script_of(files.allocator(), text)?;
-    let told = push_file(files, name.as_bytes(), script.as_bytes(), &[]);
-    drop(script);
-    told
+    let device = one_file(alloc, b"db", zeros.as_slice(), fails)?;
+    Ok(MemShelf::new(device, List::new(alloc), List::new(alloc)))
 }
 
 /// The device `db` with these bytes, and the scripts of these names that texts stand for.
@@ -88,7 +64,8 @@ pub(crate) fn shelf_of(
 ) -> Result<MemShelf, Memory> {
     let mut files = one_file(alloc, b"db", database, &[])?;
     for (name, text) in names.iter().zip(texts) {
-        push_script(&mut files, name, text)?;
+        let script = script_of(alloc, text)?;
+        push_file(&mut files, name.as_bytes(), script.as_bytes(), &[])?;
     }
     Ok(MemShelf::new(files, List::new(alloc), List::new(alloc)))
 }

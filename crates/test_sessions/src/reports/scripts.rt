@@ -2,11 +2,11 @@
 
 use std::alloc::{AllocError, Global};
 
-/// Adds a text with a number for each `#`.
-fn push_numbered(script: &mut String, text: &str, number: u32) -> Result<(), AllocError> {
-    for (place, part) in text.split('#').enumerate() {
+/// Adds a text with other words for each of its marks.
+fn push_marked(script: &mut String, text: &str, mark: char, words: &str) -> Result<(), AllocError> {
+    for (place, part) in text.split(mark).enumerate() {
         if place > 0 {
-            write!(script, "{number}")?;
+            script.push_str(words)?;
         }
         script.push_str(part)?;
     }
@@ -17,17 +17,9 @@ fn push_numbered(script: &mut String, text: &str, number: u32) -> Result<(), All
 fn push_repeated(script: &mut String, repeated: &str) -> Result<(), AllocError> {
     if let Some((count, text)) = repeated.split_once(' ') {
         for number in 0..count.parse::<u32>().unwrap_or(0) {
-            push_numbered(script, text, number)?;
+            let number = format!(in *script.allocator(); "{number}")?;
+            push_marked(script, text, '#', number.as_str())?;
         }
-    }
-    Ok(())
-}
-
-/// Adds a text with a line feed for each `~`.
-fn push_lines(script: &mut String, text: &str) -> Result<(), AllocError> {
-    for (place, part) in text.split('~').enumerate() {
-        script.push_str(if place > 0 { "\n" } else { "" })?;
-        script.push_str(part)?;
     }
     Ok(())
 }
@@ -39,9 +31,9 @@ pub(crate) fn script_of(alloc: Global, text: &str) -> Result<String, AllocError>
         match part.split_once('}') {
             Some((repeated, rest)) => {
                 push_repeated(&mut script, repeated)?;
-                push_lines(&mut script, rest)?;
+                push_marked(&mut script, rest, '~', "\n")?;
             }
-            None => push_lines(&mut script, part)?,
+            None => push_marked(&mut script, part, '~', "\n")?,
         }
     }
     Ok(script)

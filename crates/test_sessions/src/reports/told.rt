@@ -4,8 +4,8 @@ use afl_outside::{MemDisk, MemShelf};
 use afl_run::{Report, SessionEnd, notice_line};
 use cell_values::Memory;
 use std::str::from_utf8;
+use test_disks::push_numbered;
 use test_kit::{disk_bytes, push_word, push_words};
-use test_stores::push_numbered;
 
 /// Adds bytes that are a text.
 pub(crate) fn push_bytes(out: &mut String, bytes: &[u8]) -> Result<(), Memory> {
@@ -32,10 +32,8 @@ pub(crate) fn end_words(end: SessionEnd) -> (&'static str, &'static str) {
 
 /// Adds how many bytes a device has.
 fn push_length(out: &mut String, disk: &MemDisk) -> Result<(), Memory> {
-    let image = disk_bytes(disk)?;
-    let length = image.len() as u64;
-    drop(image);
-    push_numbered(out, "device of ", length, " bytes, ")
+    let length = disk_bytes(disk)?.len();
+    Ok(write!(out, "device of {length} bytes, ")?)
 }
 
 /// Adds what a session has written, and how it ended.

@@ -5,7 +5,6 @@ use file_items::{Copies, List, Memory};
 use plan_changes::NameEntry;
 
 /// Some bytes of the file.
-#[derive(Drop)]
 pub struct BlobAt {
     /// How many bytes there are.
     pub length: u64,
@@ -13,18 +12,40 @@ pub struct BlobAt {
     pub pages: List<u32>,
 }
 
+impl Drop for BlobAt {
+    fn drop(self) {
+        let BlobAt {
+            length: _,
+            pages: _,
+        } = self;
+    }
+}
+
 /// A stored array, and where the directory of each of its versions lies.
-#[derive(Drop)]
 pub struct CatalogArray {
     pub entry: NameEntry,
     /// One for each version, in the same order.
     pub directories: List<BlobAt>,
 }
 
+impl Drop for CatalogArray {
+    fn drop(self) {
+        let CatalogArray {
+            entry: _,
+            directories: _,
+        } = self;
+    }
+}
+
 /// The stored arrays, rising by name.
-#[derive(Drop)]
 pub struct Catalog {
     pub arrays: List<CatalogArray>,
+}
+
+impl Drop for Catalog {
+    fn drop(self) {
+        let Catalog { arrays: _ } = self;
+    }
 }
 
 impl BlobAt {

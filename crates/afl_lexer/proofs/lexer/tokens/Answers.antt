@@ -13,7 +13,7 @@ err_is : (r : Result (List Token) LexFault) (at : ℕ) (kind : LexKind) → IsEr
 err_is (Ok tokens) at kind h = absurd h
 err_is (Err fault) at kind h = ap Err (sym h)
 
-stops : (c : goal.After-drop-tokens-inside) → LexStops c.args.text.now c.in_err-token.field-0.0.at c.in_err-token.field-0.0.kind
+stops : (c : goal.After-drop-tokens) → LexStops c.args.text.now c.in_err-token.field-0.0.at c.in_err-token.field-0.0.kind
 stops c = reached_fault c.args.text.now c.loop-at.tokens c.loop-at.at c.in_err-token.field-0.0.at c.in_err-token.field-0.0.kind c.loop-at.invariant c.in_err-token.ensures.fault
 
 pub returns-in_err-token-clause-only_tokens : goal.returns-in_err-token-clause-only_tokens

@@ -1,6 +1,6 @@
 use Rattle.std.proofs.Common.{sym, ◌∙◌, subst}
 use Rattle.version_catalog.specs.Catalogs.{IsCatalog}
-use Rattle.catalog_changes.proofs.Kept.{records_keep_catalogs}
+use Rattle.version_catalog.proofs.Kept.{records_keep_catalogs}
 use Rattle.file_reading.proofs.base.apply_record.Goals as goal
 
 pub returns-in-Ok-clause-rules : goal.returns-in-Ok-clause-rules

@@ -1,7 +1,8 @@
-use Rattle.std.proofs.Common.{◌≤◌, ◌+◌, length, sym, subst, arith}
+use Rattle.std.proofs.Common.{◌≡◌, ◌∙◌, ◌≤◌, ◌+◌, [], ap, length, refl, sym, subst, arith}
 use Rattle.turn_lock.proofs.Gathering.{longer_by_one}
 use Rattle.snapshot_manager.proofs.Seating.{first_of_rest, less_one}
-use Rattle.session_threads.proofs.Desks.{desk_at, emptied_more, ended_at, is_left}
+use Rattle.session_threads.specs.Inner.Desks.{AreEmptied}
+use Rattle.session_threads.proofs.Desks.{desk_at, emptied_more, emptied_none, ended_at, is_left}
 use Rattle.session_threads.proofs.run.emptied.Goals as goal
 
 pub remove-requires : goal.remove-requires
@@ -31,3 +32,27 @@ loop-preserved g c =
           c.push_reserved-in-loop.new.self.items (desk_at c.args.desks c.loop.counter c.remove.result _ at c.into_done-seat.ensures) i.seats i.reports
           c.push_reserved.ensures.items c.push_reserved-in-loop.ensures.items i.emptied;
     }
+
+pub loop-init : goal.loop-init
+loop-init g c = record {
+  desks = refl;
+  seats = ap length c.requires.seats.0;
+  reports = ap length c.requires.reports.0;
+  seat_room = c.requires.seats.1;
+  report_room = c.requires.reports.1;
+  emptied = subst (λ seats. AreEmptied c.args.desks seats c.args.reports.items) (sym c.requires.seats.0)
+      (subst (AreEmptied c.args.desks []) (sym c.requires.reports.0) (emptied_none c.args.desks));
+}
+
+pub returns-clause-seats : goal.returns-clause-seats
+returns-clause-seats g c =
+    let all : c.loop.counter ≡ length c.args.desks = omega arith in
+    (c.loop.invariant.seats ∙ all, c.loop.invariant.seat_room)
+
+pub returns-clause-reports : goal.returns-clause-reports
+returns-clause-reports g c =
+    let all : c.loop.counter ≡ length c.args.desks = omega arith in
+    ap length c.from_vec.ensures ∙ c.loop.invariant.reports ∙ all
+
+pub returns-clause-emptied : goal.returns-clause-emptied
+returns-clause-emptied g c = subst (AreEmptied c.args.desks c.loop.seats.items) (sym c.from_vec.ensures) c.loop.invariant.emptied

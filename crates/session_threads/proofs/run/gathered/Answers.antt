@@ -1,7 +1,8 @@
-use Rattle.std.proofs.Common.{◌∙◌, sym, subst}
+use Rattle.std.proofs.Common.{◌∙◌, ◌+◌, ap, sym, subst}
 use Rattle.store_state.specs.At.{standing}
 use Rattle.store_state.specs.Events.{events}
 use Rattle.session_threads.specs.Sessions.{AreOfSessions}
+use Rattle.session_threads.specs.Inner.Desks.{IsReaper}
 use Rattle.session_threads.proofs.Desks.{all_ended, all_served, seats_idle}
 use Rattle.session_threads.proofs.run.gathered.Goals as goal
 
@@ -22,3 +23,15 @@ returns-clause-each g c = λ style all same are.
 pub returns-clause-others : goal.returns-clause-others
 returns-clause-others g c =
     subst (λ n. AreOfSessions n (events (standing g.D.Disk.moment c.finished.result))) c.emptied-seats.ensures.seats.0 c.finished.ensures.others
+
+pub finished-requires-clause-count : goal.finished-requires-clause-count
+finished-requires-clause-count g c = c.requires.count ∙ ap (λ n. n + 1) (sym c.emptied-seats.ensures.seats.0)
+
+pub finished-requires-clause-own : goal.finished-requires-clause-own
+finished-requires-clause-own g c = subst (λ n. IsReaper c.args.shared n c.args.own) (sym c.emptied-seats.ensures.seats.0) c.requires.own
+
+pub returns-clause-start : goal.returns-clause-start
+returns-clause-start g c = c.finished.ensures.start
+
+pub returns-clause-count : goal.returns-clause-count
+returns-clause-count g c = c.emptied-seats.ensures.reports

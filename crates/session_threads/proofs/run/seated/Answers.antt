@@ -1,6 +1,7 @@
-use Rattle.std.proofs.Common.{◌≡◌, ◌≤◌, length, slice_get, Some, sym, subst, arith}
+use Rattle.std.proofs.Common.{◌≡◌, ◌≤◌, ap, length, refl, slice_get, Some, sym, subst, arith}
 use Rattle.turn_lock.proofs.Gathering.{longer_by_one}
 use Rattle.snapshot_manager.proofs.Seating.{first_of_rest, less_one}
+use Rattle.session_threads.specs.Inner.Desks.{AreSeated}
 use Rattle.session_threads.proofs.Desks.{is_left, seated_more}
 use Rattle.session_threads.proofs.run.seated.Goals as goal
 
@@ -40,3 +41,12 @@ returns-clause-count g c = omega arith
 
 pub returns-clause-desks : goal.returns-clause-desks
 returns-clause-desks g c = c.loop.invariant.seated
+
+pub loop-init : goal.loop-init
+loop-init g c = record {
+  seats = refl;
+  streams = refl;
+  count = ap length c.requires.room.0;
+  room = c.requires.room.1;
+  seated = subst (AreSeated c.args.seats c.args.streams) (sym c.requires.room.0) (λ k desk near. absurd (omega (arith, near)));
+}

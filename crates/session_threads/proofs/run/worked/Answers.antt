@@ -1,4 +1,4 @@
-use Rattle.std.proofs.Common.{◌≡◌, ◌∙◌, length, subst, arith}
+use Rattle.std.proofs.Common.{◌≡◌, ◌∙◌, length, sym, subst, arith}
 use Rattle.session_threads.specs.Inner.Desks.{IsReaper}
 use Rattle.session_threads.proofs.Desks.{all_done, all_ready, all_waiting, new_at, reaper_new}
 use Rattle.session_threads.proofs.run.worked.Goals as goal
@@ -24,3 +24,11 @@ pub returns-clause-own : goal.returns-clause-own
 returns-clause-own g c =
     let new = new_at c.args.shared.now c.args.seats (length c.args.streams) c.seated-desks.result.1 c.requires.seats c.seated-desks.ensures.own in
     subst (λ n. IsReaper c.args.shared.now n c.reap_once.new.seat) (c.work_beside-desks.ensures.own.session_is ∙ new.session_is) c.reap_once.ensures
+
+pub reap_once-requires : goal.reap_once-requires
+reap_once-requires g c =
+    let own = c.work_beside-desks.ensures.own in
+    subst (λ n. IsReaper c.args.shared.now n c.work_beside-desks.result.1) (sym own.session_is) own
+
+pub returns-clause-count : goal.returns-clause-count
+returns-clause-count g c = c.work_beside-desks.ensures.count ∙ c.seated-desks.ensures.count

@@ -14,7 +14,6 @@ use std::marker::Model;
 use std::snapshot::Snapshot;
 
 /// What is known after some entries. Contracts see the core that it stands for, and for how many versions more it has room.
-#[derive(Drop)]
 pub struct LeanCore {
     pub(crate) names: Names,
     /// The versions that can be named, now or where an open pin began, in the order in which they came.
@@ -24,6 +23,20 @@ pub struct LeanCore {
     pub(crate) free: List<u32>,
     pub(crate) limit: u32,
     pub(crate) entries: u64,
+}
+
+impl Drop for LeanCore {
+    fn drop(self) {
+        let LeanCore {
+            names: _,
+            rows: _,
+            catalogue: _,
+            pins: _,
+            free: _,
+            limit: _,
+            entries: _,
+        } = self;
+    }
 }
 
 impl Model for LeanCore {

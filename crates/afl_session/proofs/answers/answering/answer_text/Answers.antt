@@ -5,20 +5,20 @@ use Rattle.afl_session.specs.Reads.{ReadsOnce}
 use Rattle.afl_session.proofs.Wholes.{stop_is_whole, stop_reads_none, tree_is_answered, want_is_whole, want_reads_none}
 use Rattle.afl_session.proofs.answers.answering.answer_text.Goals as goal
 
-pub answer_tree-requires-clause-fit : goal.answer_tree-requires-clause-fit
-answer_tree-requires-clause-fit g c κs within = parsed_leaves c.args.text.now c.in-Ok.tree (λ i. omega (arith, c.type_inv.text i)) c.in-Ok.ensures.tree
+pub answer_tree-answer-requires-clause-fit : goal.answer_tree-answer-requires-clause-fit
+answer_tree-answer-requires-clause-fit g c κs within = parsed_leaves c.args.text.now c.in-Ok.tree (λ i. omega (arith, c.type_inv.text i)) c.in-Ok.ensures.tree
 
 pub returns-in-Ok : goal.returns-in-Ok
 returns-in-Ok g c =
-    let e = c.answer_tree.ensures in
+    let e = c.answer_tree-answer.ensures in
     let p = c.in-Ok.ensures in record {
       seat = e.seat;
       same = e.same;
       none = e.none;
-      answered = tree_is_answered c.args.options.now.style g.D.Disk.moment (start g.D.Disk.moment c.args.shared.now) (session_of c.args.seat) (last_place c.args.seat) (seen c.args.seat) (seen c.answer_tree.result.1)
-          c.args.text.now c.answer_tree.result.0 c.in-Ok.tree e.answered p.only_tree p.only_stop;
-      reads = λ t derives accepted. subst (λ one. ReadsOnce g.D.Disk.moment (start g.D.Disk.moment c.args.shared.now) (session_of c.args.seat) (seen c.args.seat) (seen c.answer_tree.result.1)
-          c.args.text.now one (read_count c.args.seat) (read_count c.answer_tree.result.1)) (p.only_tree t derives) (e.reads accepted);
+      answered = tree_is_answered c.args.options.now.style g.D.Disk.moment (start g.D.Disk.moment c.args.shared.now) (session_of c.args.seat) (last_place c.args.seat) (seen c.args.seat) (seen c.answer_tree-answer.result.1)
+          c.args.text.now c.answer_tree-answer.result.0 c.in-Ok.tree e.answered p.only_tree p.only_stop;
+      reads = λ t derives accepted. subst (λ one. ReadsOnce g.D.Disk.moment (start g.D.Disk.moment c.args.shared.now) (session_of c.args.seat) (seen c.args.seat) (seen c.answer_tree-answer.result.1)
+          c.args.text.now one (read_count c.args.seat) (read_count c.answer_tree-answer.result.1)) (p.only_tree t derives) (e.reads accepted);
     }
 
 pub returns-in-Err-At : goal.returns-in-Err-At

@@ -5,7 +5,7 @@ use Rattle.snapshot_manager.specs.Lent.{turn_with}
 use Rattle.store_ledger.specs.Ledger.{history, is_noted, is_tried}
 use Rattle.store_state.specs.At.{standing}
 use Rattle.snapshot_manager.specs.Databases.{HasDatabase}
-use Rattle.snapshot_manager.specs.Held.{names_now}
+use Rattle.session_sources.specs.Held.{names_now}
 use Rattle.afl_session.specs.Inner.Turns.{Goes, KeepsTurn, goes_short}
 use Rattle.afl_session.proofs.Going.{keeps_same}
 use Rattle.afl_session.proofs.turns.held.answer_in_turn.Goals as goal

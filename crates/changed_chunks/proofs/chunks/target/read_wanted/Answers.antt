@@ -4,7 +4,7 @@ use Rattle.cell_values.specs.Schemas.{IsValid}
 use Rattle.array_parts.specs.Cores.{cores_of}
 use Rattle.chunk_source.specs.Source.{listed}
 use Rattle.chunk_source.proofs.ReadLemmas.{asked_none, on_err}
-use Rattle.leaf_parts.proofs.ReadLaws.{wanted_among}
+use Rattle.chunk_source.proofs.ReadLaws.{wanted_among}
 use Rattle.changed_chunks.specs.Wanted.{is_wanted, target_wanted}
 use Rattle.changed_chunks.proofs.Asked.{asked_listed, front_listed}
 use Rattle.changed_chunks.proofs.ChunkLaws.{read_stored}

@@ -4,7 +4,7 @@ use Rattle.cell_values.specs.Schemas.{IsValid}
 use Rattle.cell_values.specs.declared.schema.Bounds.{Bounds}
 use Rattle.chunk_source.specs.Source.{Reads}
 use Rattle.logical_plan.specs.declared.parts.Leaf.{Leaf}
-use Rattle.leaf_parts.proofs.SufficientLaws.{whole_needs}
+use Rattle.chunk_source.proofs.SufficientLaws.{whole_needs}
 use Rattle.changed_chunks.proofs.Tracing.{over_alone, told_alone, valid_leaves}
 use Rattle.changed_chunks.proofs.traces.lines.plan_lines.Goals as goal
 

@@ -1,5 +1,5 @@
 use Rattle.std.proofs.Common.{length, ap, ◌∙◌, arith}
-use Rattle.leaf_parts.proofs.SufficientLaws.{whole_needs}
+use Rattle.chunk_source.proofs.SufficientLaws.{whole_needs}
 use Rattle.chunk_exec.proofs.ExecutedLaws.{in_its_boxes}
 use Rattle.chunk_exec.proofs.plans.running.run.Goals as goal
 

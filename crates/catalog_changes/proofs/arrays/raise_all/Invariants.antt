@@ -1,6 +1,0 @@
-use Rattle.std.proofs.Common.{◌≡◌, ◌++◌, map, take, drop}
-use Rattle.catalog_changes.specs.Records.{with_directory}
-use Rattle.catalog_changes.proofs.arrays.raise_all.Given as goal
-
-abbrev pub invariant-loop-array : goal.invariant-loop-array
-invariant-loop-array l = l.arrays ≡ map (with_directory l.fn.name l.fn.directory) (take l.array-index l.initial.arrays) ++ drop l.array-index l.initial.arrays

@@ -1,5 +1,0 @@
-use Rattle.catalog_changes.proofs.DirectoryLaws.{are_allowed, do_their_change}
-use Rattle.catalog_changes.proofs.laws.records_do_their_change.Goals as goal
-
-pub returns : goal.returns
-returns c = record { allowed = are_allowed; same = do_their_change }

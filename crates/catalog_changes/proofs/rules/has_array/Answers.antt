@@ -1,6 +1,0 @@
-use Rattle.std.proofs.Common.{◌∙◌}
-use Rattle.catalog_changes.proofs.Maps.{any_map}
-use Rattle.catalog_changes.proofs.rules.has_array.Goals as goal
-
-pub returns : goal.returns
-returns c = c.any_array.ensures ∙ any_map c.args.name.now c.args.arrays.now

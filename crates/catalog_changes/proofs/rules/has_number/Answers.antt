@@ -1,6 +1,0 @@
-use Rattle.std.proofs.Common.{◌∙◌}
-use Rattle.catalog_changes.proofs.Maps.{all_map}
-use Rattle.catalog_changes.proofs.rules.has_number.Goals as goal
-
-pub returns : goal.returns
-returns c = c.all_numbers.ensures ∙ all_map c.args.name.now c.args.arrays.now

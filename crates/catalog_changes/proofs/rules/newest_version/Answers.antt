@@ -1,7 +1,0 @@
-use Rattle.std.proofs.Common.{◌∙◌, ap, sym}
-use Rattle.catalog_changes.specs.Records.{newest_in}
-use Rattle.catalog_changes.proofs.Maps.{newest_map}
-use Rattle.catalog_changes.proofs.rules.newest_version.Goals as goal
-
-pub returns : goal.returns
-returns c = c.newest_in.ensures ∙ ap newest_in c.array_named.ensures ∙ sym (newest_map c.args.name.now c.args.arrays.now)

@@ -1,0 +1,70 @@
+//! Leaves, read for a box.
+ghost use Rattle.std.specs.Prelude.{◌≡◌, ◌++◌, map, IfOk, OnOk, OnErr, IsTrue};
+ghost use Rattle.std.specs.List.{AllByRecursion, AllZip};
+ghost use Rattle.cell_values.specs.Schemas.{IsValid};
+ghost use Rattle.logical_plan.specs.Meaning.{Database};
+ghost use Rattle.plan_needs.specs.Wanted.{wanted_of};
+ghost use Rattle.chunk_source.specs.Source.{Reads, listed, is_among, IsStored, IsChunkIn, Keeps, AsksFront, asks};
+ghost use Rattle.chunk_source.specs.Faults.{Answers};
+ghost use Rattle.chunk_source.specs.Known.{IsPartIn};
+ghost use Rattle.chunk_source.specs.Read.{IsRead};
+
+use crate::leaves::parts::arrays::{part_array, stand_alone};
+use crate::{ChunkSource, ExecFault};
+use array_geom::{Chunk, ChunkedArray, chunks_meeting};
+use cell_values::{Bounds, ChunkAt, List};
+use logical_plan::Leaf;
+use std::alloc::Global;
+
+/// Reads these chunks of a leaf.
+fn read_chunks<S: ChunkSource>(
+    source: &mut S,
+    number: u32,
+    leaf: &Leaf,
+    chunks: &[ChunkAt],
+) -> Result<List<Chunk>, ExecFault>
+    requires reads { Reads (S.state source.old) leaf.now }
+    requires listed { AllByRecursion (λ at. IsTrue (is_among at (listed (S.state source.old) leaf.now))) chunks.now }
+    ensures stored { IfOk result (AllZip (IsStored leaf.now.schema) chunks.now) }
+    ensures told { IfOk result (λ read. (db : Database) → (S.state source.old).tells db → AllByRecursion (IsChunkIn db leaf.now) read) }
+    ensures asked { OnOk result ((S.state source.new).asked ≡ (S.state source.old).asked ++ map (asks number) chunks.now) }
+    ensures front { OnErr result (AsksFront (map (asks number) chunks.now) (S.state source.old) (S.state source.new)) }
+    ensures kept { Keeps (S.state source.old) (S.state source.new) }
+    ensures cause { Answers (S.state source.old) (S.state source.new) result }
+    ensures start { S.start source.new ≡ S.start source.old }
+{
+    let mut read = leaf.schema.dimensions.another();
+    for at in chunks {
+        read.push(source.chunk(number, leaf, at)?)?;
+    }
+    Ok(read)
+}
+
+/// The array of a leaf, which has this number in its plan, as far as its chunks tell whose cores meet a box. Each of these is asked
+/// for once, in the order in which they are listed, and no other.
+pub fn read_part<S: ChunkSource>(
+    alloc: Global,
+    source: &mut S,
+    number: u32,
+    leaf: &Leaf,
+    area: &Bounds,
+) -> Result<ChunkedArray, ExecFault>
+    requires reads { Reads (S.state source.old) leaf.now }
+    requires valid { IsValid leaf.now.schema }
+    ensures read { IfOk result (IsRead leaf.now.schema) }
+    ensures told { let old = S.state source.old in
+        IfOk result (λ array. (db : Database) → old.tells db → IsPartIn db leaf.now area.now (listed old leaf.now) array) }
+    ensures asked { let old = S.state source.old in OnOk result ((S.state source.new).asked
+        ≡ old.asked ++ map (asks number) (wanted_of leaf.now.schema.dimensions area.now (listed old leaf.now))) }
+    ensures front { let old = S.state source.old in OnErr result
+        (AsksFront (map (asks number) (wanted_of leaf.now.schema.dimensions area.now (listed old leaf.now))) old (S.state source.new)) }
+    ensures kept { Keeps (S.state source.old) (S.state source.new) }
+    ensures cause { Answers (S.state source.old) (S.state source.new) result }
+    ensures start { S.start source.new ≡ S.start source.old }
+{
+    let stored = source.listed(leaf)?;
+    let wanted = chunks_meeting(alloc, &leaf.schema, area, stored.as_slice())?;
+    let alone = stand_alone(&leaf.schema, stored.as_slice(), wanted.as_slice());
+    let chunks = read_chunks(source, number, leaf, wanted.as_slice())?;
+    Ok(part_array(&leaf.schema, chunks, alone)?)
+}

@@ -1,0 +1,31 @@
+use Rattle.std.proofs.Common.{◌≡◌, ℕ, List, length, take, drop, sym, ap, ◌∙◌, subst, arith, length-drop}
+use Rattle.cell_values.specs.declared.datum.Row.{Row}
+use Rattle.array_rows.specs.Rows.{Coordinate}
+use Rattle.array_geom.specs.Link.{rows_in}
+use Rattle.group_rows.specs.Inner.Places.{HaveKey, key_of, rows_at}
+use Rattle.group_rows.proofs.PlaceLaws.{all_rows, group_taken, length_rows, rows_taken}
+use Rattle.group_rows.proofs.places.runs.take_group.Goals as goal
+
+pub returns-clause-states : goal.returns-clause-states
+returns-clause-states c = λ before rise keeps.
+    let grid = c.args.grid.now in
+    let low = grid.low.items in
+    let lengths = grid.lengths.items in
+    let positions = c.args.positions.now in
+    let behind = drop c.args.from c.args.cells.now in
+    let group = key_of c.args.grouping.now in
+    let key = c.key_at-key.result in
+    let count = c.run_length-count.result in
+    let places = c.split_at.result.0.now in
+    let long = length-drop c.args.from c.args.cells.now in
+    let enough = c.requires.cells in
+    let within = c.run_length-count.ensures.within in
+    let some = c.run_length-count.ensures.some in
+    let many = c.split_at.ensures.front_len in
+    let run : List Row = rows_at grid places c.args.cells.now c.args.from in
+    let as_many : length run ≡ length places = length_rows low lengths places behind (omega (arith, long, enough, within, many)) in
+    let same : run ≡ take count (rows_at grid positions c.args.cells.now c.args.from) =
+    ap (λ (ps : List ℕ). rows_in low lengths ps behind) c.split_at.ensures.front ∙ rows_taken low lengths positions behind count in
+    let keyed : HaveKey c.args.grouping.now grid key.items places = subst (HaveKey c.args.grouping.now grid key.items) (sym c.split_at.ensures.front) c.run_length-count.ensures.same in
+    group_taken c.args.aggregates.now group key before run (take count (rows_at grid positions c.args.cells.now c.args.from)) c.args.groups.now c.take_places.new.groups
+    (omega (arith, as_many, many, some)) same (all_rows (λ (at : Coordinate). group at ≡ key.items) low lengths places behind keyed) c.in_ok-take_places.ensures.states rise keeps

@@ -1,0 +1,46 @@
+use Rattle.std.proofs.Common.{◌++◌, ◌-◌, ap, ◌∙◌, arith, length, length-append, take, [], ◌∷◌}
+use Rattle.group_rows.specs.Inner.Places.{rows_at}
+use Rattle.group_rows.proofs.TakenLaws.{room_for, split_last, states_left_out, states_more, cells_fewer, cells_more}
+use Rattle.group_rows.proofs.places.states.+with_places.Goals as goal
+
+pub with_places-requires : goal.with_places-requires
+with_places-requires t c =
+    let n = ap length c.in-Some.ensures ∙ length-append c.pop.new.self (c.in-Some.state ∷ []) in (
+      omega (arith, n, c.decreases),
+      (
+        c.requires.grid,
+        (
+          c.requires.inside,
+          (
+            c.requires.each,
+            (
+              c.requires.few,
+              (room_for (length c.args.positions.now) c.args.states c.pop.new.self c.in-Some.state c.in-Some.ensures c.requires.room).0,
+            ),
+          ),
+        ),
+      ),
+    )
+
+pub with_column-requires-clause-room : goal.with_column-requires-clause-room
+with_column-requires-clause-room t c = (room_for (length c.args.positions.now) c.args.states c.pop.new.self c.in-Some.state c.in-Some.ensures c.requires.room).1
+
+pub returns-in-None-clause-states : goal.returns-in-None-clause-states
+returns-in-None-clause-states t c = λ before h rise.
+    states_left_out c.args.aggregates.now before (before ++ rows_at c.args.grid.now c.args.positions.now c.args.cells.now c.args.from) c.args.states c.pop.new.self c.in-None.ensures.0 c.in-None.ensures.1 h
+
+pub returns-in-empty-clause-cells : goal.returns-in-empty-clause-cells
+returns-in-empty-clause-cells t c = cells_fewer (length c.args.positions.now) c.args.states c.pop.new.self c.in-Some.state c.in-Some.ensures
+
+pub returns-in_ok-push-in-len1-up-clause-states : goal.returns-in_ok-push-in-len1-up-clause-states
+returns-in_ok-push-in-len1-up-clause-states t c = λ rows h rise.
+    let gs = c.args.aggregates.now in
+    let before = length gs - 1 in
+    states_more rows (rows ++ rows_at c.args.grid.now c.args.positions.now c.args.cells.now c.args.from) gs (take before gs) c.aggregate-item.result c.args.states c.pop.new.self c.push.new.self c.in_ok-more-in-len1-up.more c.in-Some.state c.in_ok-with_column-in-len1-up.field-0
+    (split_last before gs c.aggregate-item.result (omega (arith, c.in-len1-up.len_at_least)) c.aggregate-item.is) c.in-Some.ensures c.in_ok-push-in-len1-up.ensures.ok
+    (λ k. c.in_ok-more-in-len1-up.ensures.states rows k rise) (λ k. c.in_ok-with_column-in-len1-up.ensures.stands rows k rise) h
+
+pub returns-in_ok-push-in-len1-up-clause-cells : goal.returns-in_ok-push-in-len1-up-clause-cells
+returns-in_ok-push-in-len1-up-clause-cells t c =
+    cells_more (length c.args.positions.now) c.args.states c.pop.new.self c.push.new.self c.in_ok-more-in-len1-up.more c.in-Some.state c.in_ok-with_column-in-len1-up.field-0 c.in-Some.ensures c.in_ok-push-in-len1-up.ensures.ok
+    c.in_ok-more-in-len1-up.ensures.cells c.in_ok-with_column-in-len1-up.ensures.cells

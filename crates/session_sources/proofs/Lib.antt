@@ -1,0 +1,12 @@
+pub use Rattle.snapshot_manager.proofs.Databases
+pub use Rattle.snapshot_manager.proofs.FreshChanges
+pub use Rattle.snapshot_manager.proofs.Sights
+pub use Rattle.snapshot_manager.proofs.Telling
+pub use Rattle.snapshot_manager.proofs.TriedTurns
+pub use Rattle.snapshot_manager.proofs.Turning
+pub mod Answering
+pub mod CourseLaws
+pub mod HeldSteps
+pub mod NoteSteps
+pub mod PinnedSteps
+pub mod VersionLaws

@@ -1,5 +1,0 @@
-use Rattle.snapshot_manager.proofs.VersionLaws.{held_sources_hold_versions, pinned_sources_hold_versions}
-use Rattle.snapshot_manager.proofs.sources.laws.sources_hold_their_versions.Goals as goal
-
-pub returns : goal.returns
-returns g c = record { pinned = pinned_sources_hold_versions g.D.Disk.moment; held = held_sources_hold_versions g.D.Disk.moment }

@@ -1,0 +1,5 @@
+pub mod Checking
+pub mod Committing
+pub mod Holding
+pub mod Making
+pub mod ReadLemmas

@@ -1,0 +1,17 @@
+use Rattle.std.proofs.Common.{List, IsTrue, sym, subst}
+use Rattle.arrayvec.specs.ArrayVec.{ArrayVec}
+use Rattle.chunk_source.specs.Source.{is_among}
+use Rattle.test_disks.proofs.Holding.{notes_leave_all}
+use Rattle.test_disks.proofs.ReadLemmas.{among_at}
+use Rattle.test_disks.proofs.readings.reading.chunk_at.Goals as goal
+
+pub read_chunk-requires-clause-listed : goal.read_chunk-requires-clause-listed
+read_chunk-requires-clause-listed g c =
+    let at = c.in-Some.at.now in
+    subst (λ (ks : List (ArrayVec _)). IsTrue (is_among at ks)) c.in-Ok.ensures.listed (among_at c.in-Ok.numbers c.args.place at (sym c.in-Some.ensures.value))
+
+pub returns-in-Ok-read_chunk-clause-all : goal.returns-in-Ok-read_chunk-clause-all
+returns-in-Ok-read_chunk-clause-all g c = notes_leave_all _ _ c.args.pinned.now.session _ _ c.read_chunk.ensures.notes
+
+pub returns-in-Some-clause-all : goal.returns-in-Some-clause-all
+returns-in-Some-clause-all g c = notes_leave_all _ _ c.args.pinned.now.session _ _ c.read_chunk.ensures.notes

@@ -1,0 +1,163 @@
+//! What the versions of a store hold.
+ghost use Rattle.std.specs.Prelude.{◌≡◌, nat_eq, IfOk, IfSome};
+ghost use Rattle.std.specs.List.{list_any};
+ghost use Rattle.cell_values.specs.Schemas.{IsValid};
+ghost use Rattle.plan_changes.specs.Stored.{AreStored};
+ghost use Rattle.store_ledger.specs.Ledger.{IsOpenPin};
+ghost use Rattle.store_state.specs.Calls.{IsLeafOf};
+ghost use Rattle.test_disks.specs.Cells.{IsRead, IsVersionIn};
+ghost use Rattle.test_disks.specs.Holds.{LeavesAll};
+
+use afl_outside::Disk;
+use array_geom::{Chunk, ChunkedArray, margins_of};
+use array_store::Store;
+use cell_values::{Bytes, List, Memory, Name, Row};
+use chunk_cells::into_rows;
+use logical_plan::{Leaf, NameEntry, Names};
+use plan_changes::entry_named;
+use result_print::dcsv;
+use std::alloc::Global;
+use store_ledger::Pinned;
+use store_state::ReadFault;
+
+fn is_among(versions: &List<u32>, version: u32) -> bool
+    ensures { result ≡ list_any (λ v. nat_eq v version) versions.now }
+{
+    versions.as_slice().iter().any(|number| *number == version)
+}
+
+/// A version of an array under this name.
+fn leaf_in(entry: &NameEntry, name: &Name, version: u32) -> Option<Leaf>
+    ensures { IfSome result (IsVersionIn entry.now name.now) }
+{
+    if !is_among(&entry.versions, version) {
+        return None;
+    }
+    Some(Leaf {
+        name: name.copy().ok()?,
+        version,
+        schema: entry.schema.copy().ok()?,
+    })
+}
+
+/// A version that can be named.
+pub(crate) fn leaf_of(names: &Names, name: &Name, version: u32) -> Option<Leaf>
+    requires { AreStored names.now }
+    ensures leaf { IfSome result (IsLeafOf names.now) }
+    ensures valid { IfSome result (λ leaf. IsValid leaf.schema) }
+{
+    match entry_named(&names.arrays, name) {
+        Some(entry) => leaf_in(entry, name, version),
+        None => None,
+    }
+}
+
+/// The version of a word as `A@1`.
+pub fn named_leaf(alloc: Global, names: &Names, word: &str) -> Option<Leaf>
+    requires { AreStored names.now }
+    ensures leaf { IfSome result (IsLeafOf names.now) }
+    ensures valid { IfSome result (λ leaf. IsValid leaf.schema) }
+{
+    let (name, version) = word.split_once('@')?;
+    let name = Name::new(Bytes::from_slice(alloc, name.as_bytes()).ok()?)?;
+    leaf_of(names, &name, version.parse::<u32>().unwrap_or(0))
+}
+
+/// The chunk at a place among those of a version; none past the last one.
+fn chunk_at<D: Disk>(
+    alloc: Global,
+    store: &mut Store<D>,
+    pinned: &Pinned,
+    leaf: &Leaf,
+    place: usize,
+) -> Result<Option<Chunk>, ReadFault>
+    requires open { IsOpenPin store.old.ledger pinned.now }
+    requires leaf { IsLeafOf pinned.now.names leaf.now }
+    ensures read { IfOk result (λ read. IfSome read (IsRead leaf.now.schema)) }
+    ensures open { IsOpenPin store.new.ledger pinned.now }
+    ensures all { LeavesAll store.old.ledger store.new.ledger }
+{
+    match store.listed(alloc, pinned, leaf) {
+        Ok(numbers) => match numbers.get(place) {
+            Some(at) => match store.read_chunk(alloc, pinned, leaf, at) {
+                Ok(chunk) => Ok(Some(chunk)),
+                Err(fault) => Err(fault),
+            },
+            None => Ok(None),
+        },
+        Err(Memory) => Err(ReadFault::Memory),
+    }
+}
+
+/// The rows of a chunk's core.
+fn rows_in(leaf: &Leaf, chunk: Chunk) -> Result<List<Row>, Memory>
+    requires valid { IsValid leaf.now.schema }
+    requires read { IsRead leaf.now.schema chunk }
+{
+    let mut chunks = leaf.schema.dimensions.another();
+    chunks.push(chunk)?;
+    into_rows(ChunkedArray {
+        schema: leaf.schema.copy()?,
+        margins: margins_of(&leaf.schema),
+        chunks,
+        broken: None,
+    })
+}
+
+/// Adds the rows of a chunk that was read, and tells whether there was one.
+pub fn add_read(
+    rows: &mut List<Row>,
+    leaf: &Leaf,
+    found: Result<Option<Chunk>, ReadFault>,
+) -> Result<bool, ReadFault>
+    requires valid { IsValid leaf.now.schema }
+    requires read { IfOk found (λ read. IfSome read (IsRead leaf.now.schema)) }
+{
+    match found {
+        Ok(Some(chunk)) => match rows_in(leaf, chunk) {
+            Ok(more) => match rows.append(more) {
+                Ok(()) => Ok(true),
+                Err(Memory) => Err(ReadFault::Memory),
+            },
+            Err(Memory) => Err(ReadFault::Memory),
+        },
+        Ok(None) => Ok(false),
+        Err(fault) => Err(fault),
+    }
+}
+
+fn count<D: Disk>(alloc: Global, store: &Store<D>, pinned: &Pinned, leaf: &Leaf) -> usize
+    requires open { IsOpenPin store.now.ledger pinned.now }
+    requires leaf { IsLeafOf pinned.now.names leaf.now }
+{
+    match store.listed(alloc, pinned, leaf) {
+        Ok(numbers) => numbers.len(),
+        Err(Memory) => 0,
+    }
+}
+
+/// What a version holds under a pin: its attributes' names, and its cells in lines, chunk by chunk.
+pub(crate) fn cells<D: Disk>(
+    alloc: Global,
+    store: &mut Store<D>,
+    pinned: &Pinned,
+    leaf: &Leaf,
+) -> Result<Bytes, ReadFault>
+    requires open { IsOpenPin store.old.ledger pinned.now }
+    requires leaf { IsLeafOf pinned.now.names leaf.now }
+    requires valid { IsValid leaf.now.schema }
+    ensures { LeavesAll store.old.ledger store.new.ledger }
+{
+    let mut rows = List::new(alloc);
+    for place in 0..count(alloc, store, pinned, leaf) {
+        let found = chunk_at(alloc, store, pinned, leaf, place);
+        match add_read(&mut rows, leaf, found) {
+            Ok(_) => {}
+            Err(fault) => return Err(fault),
+        }
+    }
+    match dcsv(alloc, &leaf.schema, rows.as_slice()) {
+        Ok(text) => Ok(text),
+        Err(Memory) => Err(ReadFault::Memory),
+    }
+}

@@ -1,0 +1,68 @@
+//! Pins of sessions.
+ghost use Rattle.std.specs.Prelude.{◌≡◌};
+ghost use Rattle.test_disks.specs.Holds.{IsHold, LeavesAll, LeavesOthers};
+
+use crate::stores::answers::Answer;
+use crate::stores::holds::Hold;
+use afl_outside::Disk;
+use array_store::Store;
+use cell_values::Memory;
+use store_ledger::{PinFault, Pinned};
+
+fn begun<D: Disk>(store: &mut Store<D>, session: u32) -> (Hold, Answer)
+    requires { IsHold store.old.ledger session Hold.Free }
+    ensures own { IsHold store.new.ledger session result.0 }
+    ensures others { LeavesOthers session store.old.ledger store.new.ledger }
+{
+    store.names();
+    match store.pin(session) {
+        Ok(pinned) => (Hold::Pinned(pinned), Answer::Done),
+        Err(PinFault::HistoryFull { entries }) => (Hold::Free, Answer::HistoryFull { entries }),
+        Err(PinFault::Memory) => (Hold::Free, Answer::Memory),
+    }
+}
+
+/// A session that has no pin begins to have one.
+pub(crate) fn pinned<D: Disk>(store: &mut Store<D>, session: u32, held: Hold) -> (Hold, Answer)
+    requires { IsHold store.old.ledger session held }
+    ensures own { IsHold store.new.ledger session result.0 }
+    ensures others { LeavesOthers session store.old.ledger store.new.ledger }
+{
+    match held {
+        Hold::Free => begun(store, session),
+        Hold::Pinned(pinned) => (Hold::Pinned(pinned), Answer::HasPin),
+        Hold::Tried(pinned) => (Hold::Tried(pinned), Answer::HasPin),
+    }
+}
+
+fn ended<D: Disk>(store: &mut Store<D>, session: u32, pinned: Pinned) -> Answer
+    requires { IsHold store.old.ledger session (Hold.Tried pinned) }
+    ensures own { IsHold store.new.ledger session Hold.Free }
+    ensures others { LeavesOthers session store.old.ledger store.new.ledger }
+{
+    store.unpin(pinned);
+    Answer::Done
+}
+
+/// The pin of a session goes, if it has one.
+pub(crate) fn unpinned<D: Disk>(store: &mut Store<D>, session: u32, held: Hold) -> Answer
+    requires { IsHold store.old.ledger session held }
+    ensures own { IsHold store.new.ledger session Hold.Free }
+    ensures others { LeavesOthers session store.old.ledger store.new.ledger }
+{
+    match held {
+        Hold::Free => Answer::HasNoPin,
+        Hold::Pinned(pinned) => ended(store, session, pinned),
+        Hold::Tried(pinned) => ended(store, session, pinned),
+    }
+}
+
+/// All pages that nobody can name become free, if that frees one.
+pub fn reaped<D: Disk>(store: &mut Store<D>) -> Answer
+    ensures { LeavesAll store.old.ledger store.new.ledger }
+{
+    match store.reap() {
+        Ok(comes) => Answer::Reaped(comes),
+        Err(Memory) => Answer::Memory,
+    }
+}

@@ -1,9 +1,0 @@
-use Rattle.std.proofs.Common.{length}
-use Rattle.afl_outside.specs.Lemmas.TornLaws.{Torn-same}
-use Rattle.test_stores.proofs.disks.quiet_disk.QuietDiskDisk.write_at.Goals as goal
-
-pub returns-in-Ok-clause-crash : goal.returns-in-Ok-clause-crash
-returns-in-Ok-clause-crash c = λ left any. (left, tt, Torn-same c.args.at (length c.args.bytes.now) left)
-
-pub returns-in_default-clause-crash : goal.returns-in_default-clause-crash
-returns-in_default-clause-crash c = λ left any. (left, tt, Torn-same c.args.at (length c.args.bytes.now) left)

@@ -1,0 +1,72 @@
+-- Arrays of a catalogue and their entries.
+use Rattle.std.proofs.Common.{◌≡◌, ◌⊎◌, inl, inr, ℕ, zero, suc, ◌-◌, ◌<◌, ◌≤◌, min, Bool, true, false, cond, not, ◌&&◌, ◌||◌, nat_lt, List, [], ◌∷◌, ◌++◌, length, take, drop, Some, refl, sym, ap, ◌∙◌, arith}
+use Rattle.std.specs.List.{list_all, list_any, find, insert}
+use Rattle.std.proofs.lemmas.Bool.{and_from, or_parts, cases_lt}
+use Rattle.std.proofs.lemmas.List.{take_at, length-drop}
+use Rattle.cell_values.specs.declared.schema.Schema.{Schema}
+use Rattle.plan_changes.specs.Allowed.{has_number}
+use Rattle.plan_changes.proofs.Maps.{all_inserted}
+use Rattle.plan_changes.specs.Changes.{is_named, has_array, newest_or, newest_of, new_entry}
+use Rattle.version_catalog.specs.declared.rules.catalog.BlobAt.{BlobAt}
+use Rattle.version_catalog.specs.declared.rules.catalog.CatalogArray.{CatalogArray}
+use Rattle.version_catalog.specs.Records.{entries_of, is_array, newest_in}
+
+pub any_map : (name : List ℕ) (arrays : List CatalogArray) → list_any (is_array name) arrays ≡ has_array (entries_of arrays) name
+any_map name [] = refl
+any_map name (a ∷ arrays) = ap (λ (b : Bool). is_named name a.entry || b) (any_map name arrays)
+
+pub all_map : (name : List ℕ) (arrays : List CatalogArray) → list_all (λ array. has_number name array.entry) arrays ≡ list_all (has_number name) (entries_of arrays)
+all_map name [] = refl
+all_map name (a ∷ arrays) = ap (λ (b : Bool). has_number name a.entry && b) (all_map name arrays)
+
+found_by : (name : List ℕ) (b : Bool) (a : CatalogArray) (arrays : List CatalogArray) → newest_or (find (is_named name) (entries_of arrays)) ≡ newest_in (find (is_array name) arrays)
+    → newest_or (cond b (Some a.entry) (find (is_named name) (entries_of arrays))) ≡ newest_in (cond b (Some a) (find (is_array name) arrays))
+found_by name true a arrays h = refl
+found_by name false a arrays h = h
+
+pub newest_map : (name : List ℕ) (arrays : List CatalogArray) → newest_of (entries_of arrays) name ≡ newest_in (find (is_array name) arrays)
+newest_map name [] = refl
+newest_map name (a ∷ arrays) = found_by name (is_named name a.entry) a arrays (newest_map name arrays)
+
+pub same_count : (arrays : List CatalogArray) → length (entries_of arrays) ≡ length arrays
+same_count [] = refl
+same_count (a ∷ arrays) = ap suc (same_count arrays)
+
+-- the first ones turned to the end and cut off
+drop_all : (ds : List BlobAt) (k : ℕ) → length ds ≤ k → drop k ds ≡ []
+drop_all [] zero le = refl
+drop_all [] (suc k) le = refl
+drop_all (d ∷ ds) zero le = absurd (omega (arith, le))
+drop_all (d ∷ ds) (suc k) le = drop_all ds k (omega (arith, le))
+
+drop_min : (ds : List BlobAt) (k : ℕ) → drop (min k (length ds)) ds ≡ drop k ds
+drop_min ds k = by_case (cases_lt k (length ds)) where
+  by_case : (k < length ds) ⊎ (length ds ≤ k) → drop (min k (length ds)) ds ≡ drop k ds
+  by_case (inl lt) = let e : min k (length ds) ≡ k = omega arith in ap (λ (n : ℕ). drop n ds) e
+  by_case (inr le) = let e : min k (length ds) ≡ length ds = omega arith in ap (λ (n : ℕ). drop n ds) e ∙ drop_all ds (length ds) (omega arith) ∙ sym (drop_all ds k le)
+
+pub rotated : (ds : List BlobAt) (k : ℕ) → take (length ds - min k (length ds)) (drop (min k (length ds)) ds ++ take (min k (length ds)) ds) ≡ drop k ds
+rotated ds k =
+    let n = min k (length ds) in
+    let kept : length (drop n ds) ≡ length ds - n = length-drop n ds in
+    take_at (drop n ds) (take n ds) (length ds - n) kept ∙ drop_min ds k
+
+-- no array of another name lacks a number
+small : (b : Bool) (n : ℕ) → b ≡ false → (not b || nat_lt n 65536) ≡ true
+small b n e = ap (λ (t : Bool). not t || nat_lt n 65536) e
+
+pub others_have : (name : List ℕ) (arrays : List CatalogArray) → has_array (entries_of arrays) name ≡ false → list_all (λ array. has_number name array.entry) arrays ≡ true
+others_have name [] none = refl
+others_have name (a ∷ arrays) none =
+    let n = or_parts (is_named name a.entry) (has_array (entries_of arrays) name) none in
+    and_from (has_number name a.entry) (list_all (λ array. has_number name array.entry) arrays) (small (is_named name a.entry) a.entry.next n.0) (others_have name arrays n.1)
+
+new_small : (b : Bool) → (not b || true) ≡ true
+new_small true = refl
+new_small false = refl
+
+-- a new array has a number, and so have the others
+pub new_has : (name : List ℕ) (schema : Schema) (arrays : List CatalogArray) (i : ℕ) → has_array (entries_of arrays) name ≡ false
+    → list_all (λ array. has_number name array.entry) (insert arrays i (record { entry = new_entry name schema; directories = [] })) ≡ true
+new_has name schema arrays i none =
+    all_inserted (λ array. has_number name array.entry) (record { entry = new_entry name schema; directories = [] }) (new_small (is_named name (new_entry name schema))) arrays i (others_have name arrays none)
