@@ -1,169 +1,150 @@
 //! Changes of each kind: the bytes of their records, and those of the catalogue after them.
-ghost use Rattle.std.specs.Prelude.{◌≡◌, IsTrue, Some, None};
+ghost use Rattle.std.specs.Prelude.{◌≡◌, IsTrue, IfOk};
 ghost use Rattle.plan_changes.specs.Allowed.{names_allow};
 ghost use Rattle.version_catalog.specs.Catalogs.{names_in};
 ghost use Rattle.version_catalog.specs.Changed.{has_its_directory};
-ghost use Rattle.version_catalog.specs.declared.rules.catalog.BlobAt.{BlobAt as ABlob};
 ghost use Rattle.test_catalogs.specs.Worked.{worked_catalog};
 
-use crate::changing::{blob, catalog, create, cut, insert, remove, store};
+use crate::changing::{blob, catalog, create, cut, remove, write_none};
+use crate::told::Told;
 use crate::vectors::*;
 use cell_values::{Bytes, Memory};
 use plan_changes::Change;
-use test_kit::{push_words, truth_word};
+use std::alloc::Global;
 use version_catalog::{BlobAt, Catalog, encode_catalog, encode_record, record_of, with_change};
 
-/// The bytes of a change's record.
-fn recorded(catalog: &Catalog, change: &Change, directory: Option<BlobAt>) -> Result<Bytes, Memory>
-    requires names { IsTrue (names_allow (names_in catalog.now) change.now) }
-    requires directory { IsTrue (has_its_directory change.now directory) }
+/// Where a change makes a version, its directory: 8 bytes in page 9.
+fn directory_for(alloc: Global, change: &Change) -> Result<Option<BlobAt>, Memory>
+    ensures { IfOk result (λ directory. IsTrue (has_its_directory change.now directory)) }
 {
+    match change {
+        Change::Store { .. } | Change::Insert { .. } => Ok(Some(blob(alloc, 8, 9)?)),
+        Change::Create { .. } | Change::Remove { .. } | Change::RemoveVersions { .. } => Ok(None),
+    }
+}
+
+/// The bytes of a change's record.
+fn recorded(catalog: &Catalog, change: &Change) -> Result<Bytes, Memory>
+    requires { IsTrue (names_allow (names_in catalog.now) change.now) }
+{
+    let alloc = catalog.arrays.allocator();
+    let directory = directory_for(alloc, change)?;
     let entry = record_of(catalog, change, directory)?;
-    let bytes = encode_record(catalog.arrays.allocator(), &entry);
+    let bytes = encode_record(alloc, &entry);
     drop(entry);
     bytes
 }
 
 /// The bytes of the catalogue after a change.
-fn changed(catalog: &Catalog, change: &Change, directory: Option<BlobAt>) -> Result<Bytes, Memory>
-    requires names { IsTrue (names_allow (names_in catalog.now) change.now) }
-    requires directory { IsTrue (has_its_directory change.now directory) }
+fn changed(catalog: &Catalog, change: &Change) -> Result<Bytes, Memory>
+    requires { IsTrue (names_allow (names_in catalog.now) change.now) }
 {
+    let alloc = catalog.arrays.allocator();
+    let directory = directory_for(alloc, change)?;
     let after = with_change(catalog, change, directory)?;
-    let bytes = encode_catalog(catalog.arrays.allocator(), &after);
+    let bytes = encode_catalog(alloc, &after);
     drop(after);
     bytes
 }
 
 /// Whether a text has these bytes. It goes.
-fn are(text: Bytes, bytes: &[u8]) -> bool {
+fn are(text: Result<Bytes, Memory>, bytes: &[u8]) -> Result<bool, Memory> {
+    let text = text?;
     let are_same = text.as_slice() == bytes;
     drop(text);
-    are_same
+    Ok(are_same)
 }
 
-/// Whether a change without a directory has this record, and leaves this catalogue.
+/// Whether a change has this record, and leaves this catalogue.
 fn makes(catalog: &Catalog, change: &Change, record: &[u8], after: &[u8]) -> Result<bool, Memory>
-    requires names { IsTrue (names_allow (names_in catalog.now) change.now) }
-    requires directory { IsTrue (has_its_directory change.now None) }
+    requires { IsTrue (names_allow (names_in catalog.now) change.now) }
 {
-    let is_recorded = are(recorded(catalog, change, None)?, record);
-    let is_left = are(changed(catalog, change, None)?, after);
+    let is_recorded = are(recorded(catalog, change), record)?;
+    let is_left = are(changed(catalog, change), after)?;
     Ok(is_recorded && is_left)
 }
 
-/// The same of a change with a directory of 8 bytes in page 9.
-fn writes(catalog: &Catalog, change: &Change, record: &[u8], after: &[u8]) -> Result<bool, Memory>
-    requires names { IsTrue (names_allow (names_in catalog.now) change.now) }
-    requires directory { (directory : ABlob) → IsTrue (has_its_directory change.now (Some directory)) }
-{
-    let alloc = catalog.arrays.allocator();
-    let is_recorded = are(recorded(catalog, change, Some(blob(alloc, 8, 9)?))?, record);
-    let is_left = are(changed(catalog, change, Some(blob(alloc, 8, 9)?))?, after);
-    Ok(is_recorded && is_left)
-}
-
-/// The same, and the change goes: by `drop`, whose proof is one for all, and not at the end of a scope, where it would be
-/// proved in each.
-fn is_made(catalog: &Catalog, change: Change, record: &[u8], after: &[u8]) -> Result<bool, Memory>
-    requires names { IsTrue (names_allow (names_in catalog.now) change) }
-    requires directory { IsTrue (has_its_directory change None) }
-{
-    let told = makes(catalog, &change, record, after);
-    drop(change);
-    told
-}
-
-fn is_written(
+/// Adds whether it does so. The change goes: by `drop`, whose proof is one for all, and not at the end of a scope, where it would
+/// be proved in each.
+fn push_change(
+    out: &mut Told,
     catalog: &Catalog,
-    change: Change,
+    title: &str,
+    change: Result<Change, Memory>,
     record: &[u8],
     after: &[u8],
-) -> Result<bool, Memory>
-    requires names { IsTrue (names_allow (names_in catalog.now) change) }
-    requires directory { (directory : ABlob) → IsTrue (has_its_directory change (Some directory)) }
+)
+    requires { IfOk change (λ change. IsTrue (names_allow (names_in catalog.now) change)) }
 {
-    let told = writes(catalog, &change, record, after);
-    drop(change);
-    told
+    match change {
+        Ok(change) => {
+            let told = makes(catalog, &change, record, after);
+            drop(change);
+            out.truth(title, told);
+        }
+        Err(Memory) => out.truth(title, Err(Memory)),
+    }
 }
 
-fn is_created(catalog: &Catalog) -> Result<bool, Memory>
+fn push_all(out: &mut Told, catalog: &Catalog)
     requires { catalog.now ≡ worked_catalog }
 {
-    let change = create(catalog.arrays.allocator())?;
-    is_made(catalog, change, &CREATE_RECORD, &CREATED)
+    let alloc = catalog.arrays.allocator();
+    out.truth(
+        "the catalogue: ",
+        are(encode_catalog(alloc, catalog), &START),
+    );
+    let change = create(alloc);
+    push_change(
+        out,
+        catalog,
+        "an array that is created: ",
+        change,
+        &CREATE_RECORD,
+        &CREATED,
+    );
+    let change = write_none(alloc, b"B", false);
+    push_change(
+        out,
+        catalog,
+        "a first version: ",
+        change,
+        &FIRST_RECORD,
+        &STORED,
+    );
+    let change = write_none(alloc, b"A", false);
+    push_change(
+        out,
+        catalog,
+        "a next version: ",
+        change,
+        &NEXT_RECORD,
+        &NEXT,
+    );
+    let change = write_none(alloc, b"A", true);
+    push_change(out, catalog, "an insert: ", change, &NEXT_RECORD, &NEXT);
+    push_change(
+        out,
+        catalog,
+        "an array that is removed: ",
+        remove(alloc),
+        &REMOVE_RECORD,
+        &REMOVED,
+    );
+    push_change(
+        out,
+        catalog,
+        "versions that are removed: ",
+        cut(alloc),
+        &CUT_RECORD,
+        &CUT,
+    );
 }
-
-fn is_stored_first(catalog: &Catalog) -> Result<bool, Memory>
-    requires { catalog.now ≡ worked_catalog }
-{
-    let change = store(catalog.arrays.allocator(), b'B')?;
-    is_written(catalog, change, &FIRST_RECORD, &STORED)
-}
-
-fn is_stored_next(catalog: &Catalog) -> Result<bool, Memory>
-    requires { catalog.now ≡ worked_catalog }
-{
-    let change = store(catalog.arrays.allocator(), b'A')?;
-    is_written(catalog, change, &NEXT_RECORD, &NEXT)
-}
-
-fn is_inserted(catalog: &Catalog) -> Result<bool, Memory>
-    requires { catalog.now ≡ worked_catalog }
-{
-    let change = insert(catalog.arrays.allocator())?;
-    is_written(catalog, change, &NEXT_RECORD, &NEXT)
-}
-
-fn is_removed(catalog: &Catalog) -> Result<bool, Memory>
-    requires { catalog.now ≡ worked_catalog }
-{
-    let change = remove(catalog.arrays.allocator())?;
-    is_made(catalog, change, &REMOVE_RECORD, &REMOVED)
-}
-
-fn is_cut(catalog: &Catalog) -> Result<bool, Memory>
-    requires { catalog.now ≡ worked_catalog }
-{
-    let change = cut(catalog.arrays.allocator())?;
-    is_made(catalog, change, &CUT_RECORD, &CUT)
-}
-
-/// Whether the catalogue has its bytes, and each kind of change its record and its catalogue.
-fn are_as_written(catalog: &Catalog) -> Result<[bool; 7], Memory>
-    requires { catalog.now ≡ worked_catalog }
-{
-    Ok([
-        are(encode_catalog(catalog.arrays.allocator(), catalog)?, &START),
-        is_created(catalog)?,
-        is_stored_first(catalog)?,
-        is_stored_next(catalog)?,
-        is_inserted(catalog)?,
-        is_removed(catalog)?,
-        is_cut(catalog)?,
-    ])
-}
-
-/// What is compared, in this order.
-const KINDS: [&str; 7] = [
-    "the catalogue",
-    "an array that is created",
-    "a first version",
-    "a next version",
-    "an insert",
-    "an array that is removed",
-    "versions that are removed",
-];
 
 /// Adds of each kind of change whether its record, and the catalogue behind it, have the bytes that were spelled by hand.
-pub(crate) fn push_changes(out: &mut String) -> Result<(), Memory> {
-    let catalog = catalog(*out.allocator())?;
-    let told = are_as_written(&catalog);
+pub(crate) fn push_changes(out: &mut Told) -> Result<(), Memory> {
+    let catalog = catalog(out.alloc())?;
+    push_all(out, &catalog);
     drop(catalog);
-    let told = told?;
-    for (kind, is_same) in KINDS.as_slice().iter().zip(told.as_slice()) {
-        push_words(out, &[*kind, ": ", truth_word(*is_same), "\n"])?;
-    }
     Ok(())
 }

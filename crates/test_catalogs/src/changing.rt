@@ -1,57 +1,47 @@
 //! The worked catalogue and its changes, as values.
-ghost use Rattle.std.specs.Prelude.{◌≡◌, [], ◌∷◌, IfOk};
-ghost use Rattle.event_core.specs.Worked.{worked_schema as entry_schema};
-ghost use Rattle.test_catalogs.specs.Worked.{worked_schema, blob_in, worked_catalog, stored_in, worked_insert, worked_create, worked_remove, worked_cut};
+ghost use Rattle.std.specs.Prelude.{◌≡◌, [], ◌∷◌, IfOk, codes};
+ghost use Rattle.plan_changes.specs.declared.change.Change.TheVariants.{Remove, RemoveVersions};
+ghost use Rattle.test_catalogs.specs.Worked.{schema_to, worked_schema, blob_in, worked_catalog, written, worked_create};
 
-use cell_values::{Attribute, Dimension, Kind, List, Memory, Name, Schema};
+use cell_values::{Attribute, Dimension, Kind, List, Memory, Schema};
 use logical_plan::{NameEntry, Plan};
 use plan_changes::Change;
 use std::alloc::Global;
-use test_kit::one_more;
+use test_kit::{name_of, one_more};
 use version_catalog::{BlobAt, Catalog, CatalogArray};
 
-/// The name of one letter. A byte that is no letter counts as want of memory.
-fn name(alloc: Global, letter: u8) -> Result<Name, Memory>
-    ensures { IfOk result (λ name. name ≡ letter ∷ []) }
-{
-    match Name::new(List::from_slice(alloc, &[letter])?) {
-        Some(name) => Ok(name),
-        None => Err(Memory),
-    }
-}
-
 /// A number in each cell.
-pub(crate) fn attributes(alloc: Global) -> Result<List<Attribute>, Memory>
-    ensures changed { IfOk result (λ attributes. attributes ≡ worked_schema.attributes) }
-    ensures stored { IfOk result (λ attributes. attributes ≡ entry_schema.attributes) }
+fn attributes(alloc: Global) -> Result<List<Attribute>, Memory>
+    ensures { IfOk result (λ attributes. attributes ≡ worked_schema.attributes) }
 {
     let attribute = Attribute {
-        name: name(alloc, b'v')?,
+        name: name_of(alloc, b"v")?,
         kind: Kind::Int64,
         nullable: true,
     };
     one_more(List::new(alloc), attribute)
 }
 
-fn dimensions(alloc: Global) -> Result<List<Dimension>, Memory>
-    ensures { IfOk result (λ dimensions. dimensions ≡ worked_schema.dimensions) }
+fn dimensions(alloc: Global, hi: i64) -> Result<List<Dimension>, Memory>
+    ensures { IfOk result (λ dimensions. dimensions ≡ (schema_to hi).dimensions) }
 {
     let dimension = Dimension {
-        name: name(alloc, b'i')?,
+        name: name_of(alloc, b"i")?,
         lo: 0,
-        hi: 3,
+        hi,
         chunk: 2,
         overlap: 0,
     };
     one_more(List::new(alloc), dimension)
 }
 
-fn schema(alloc: Global) -> Result<Schema, Memory>
-    ensures { IfOk result (λ schema. schema ≡ worked_schema) }
+/// A number in each cell of one dimension, from 0.
+pub(crate) fn schema(alloc: Global, hi: i64) -> Result<Schema, Memory>
+    ensures { IfOk result (λ schema. schema ≡ schema_to hi) }
 {
     Ok(Schema {
         attributes: attributes(alloc)?,
-        dimensions: dimensions(alloc)?,
+        dimensions: dimensions(alloc, hi)?,
     })
 }
 
@@ -73,11 +63,11 @@ fn directories(alloc: Global) -> Result<List<BlobAt>, Memory>
 }
 
 fn entry(alloc: Global) -> Result<NameEntry, Memory>
-    ensures { IfOk result (λ entry. entry ≡ record { name = 65 ∷ []; schema = worked_schema; next = 3; versions = 1 ∷ 2 ∷ [] }) }
+    ensures { IfOk result (λ entry. entry ≡ record { name = codes "A"; schema = worked_schema; next = 3; versions = 1 ∷ 2 ∷ [] }) }
 {
     Ok(NameEntry {
-        name: name(alloc, b'A')?,
-        schema: schema(alloc)?,
+        name: name_of(alloc, b"A")?,
+        schema: schema(alloc, 3)?,
         next: 3,
         versions: List::from_slice(alloc, &[1, 2])?,
     })
@@ -96,24 +86,18 @@ pub(crate) fn catalog(alloc: Global) -> Result<Catalog, Memory>
     })
 }
 
-/// No cells, stored in an array.
-pub(crate) fn store(alloc: Global, letter: u8) -> Result<Change, Memory>
-    ensures { IfOk result (λ change. change ≡ stored_in letter) }
+/// No cells, inserted into an array or stored in it.
+pub(crate) fn write_none(alloc: Global, name: &[u8], is_inserted: bool) -> Result<Change, Memory>
+    ensures { IfOk result (λ change. change ≡ written name.now is_inserted) }
 {
-    let name = name(alloc, letter)?;
-    let schema = schema(alloc)?;
+    let name = name_of(alloc, name)?;
+    let schema = schema(alloc, 3)?;
     let plan = Plan::literal(schema.copy()?, List::new(alloc));
-    Ok(Change::Store { name, schema, plan })
-}
-
-/// No cells, inserted into A.
-pub(crate) fn insert(alloc: Global) -> Result<Change, Memory>
-    ensures { IfOk result (λ change. change ≡ worked_insert) }
-{
-    let name = name(alloc, b'A')?;
-    let schema = schema(alloc)?;
-    let plan = Plan::literal(schema.copy()?, List::new(alloc));
-    Ok(Change::Insert { name, schema, plan })
+    if is_inserted {
+        Ok(Change::Insert { name, schema, plan })
+    } else {
+        Ok(Change::Store { name, schema, plan })
+    }
 }
 
 /// B is made.
@@ -121,26 +105,26 @@ pub(crate) fn create(alloc: Global) -> Result<Change, Memory>
     ensures { IfOk result (λ change. change ≡ worked_create) }
 {
     Ok(Change::Create {
-        name: name(alloc, b'B')?,
-        schema: schema(alloc)?,
+        name: name_of(alloc, b"B")?,
+        schema: schema(alloc, 3)?,
     })
 }
 
 /// A goes.
 pub(crate) fn remove(alloc: Global) -> Result<Change, Memory>
-    ensures { IfOk result (λ change. change ≡ worked_remove) }
+    ensures { IfOk result (λ change. change ≡ Remove (codes "A")) }
 {
     Ok(Change::Remove {
-        name: name(alloc, b'A')?,
+        name: name_of(alloc, b"A")?,
     })
 }
 
 /// The versions of A below 2 go.
 pub(crate) fn cut(alloc: Global) -> Result<Change, Memory>
-    ensures { IfOk result (λ change. change ≡ worked_cut) }
+    ensures { IfOk result (λ change. change ≡ RemoveVersions (codes "A") 2) }
 {
     Ok(Change::RemoveVersions {
-        name: name(alloc, b'A')?,
+        name: name_of(alloc, b"A")?,
         below: 2,
     })
 }

@@ -1,40 +1,59 @@
 //! The bytes that words stand for.
 
 use cell_values::{Bytes, Memory};
-use test_kit::place_in;
+use std::alloc::Global;
+use std::str::from_utf8;
 
 /// The first word of a text, and what stands behind it.
 pub(crate) fn front_of(text: &str) -> (&str, &str) {
     text.split_once(' ').unwrap_or((text, ""))
 }
 
-/// The number of a word; 0 where it is none.
-fn byte_in(word: &str) -> u8 {
-    word.parse::<u8>().unwrap_or(0)
+fn number_in(word: &str) -> usize {
+    word.parse::<usize>().unwrap_or(0)
+}
+
+/// So many pages of zeros.
+pub(crate) fn zeros(alloc: Global, count: &str) -> Result<Bytes, Memory> {
+    let mut file = Bytes::new(alloc);
+    for _ in 0..number_in(count) {
+        file.extend(&[0u8; 4096])?;
+    }
+    Ok(file)
+}
+
+/// Puts bytes at a place of others, as many as those have there: the byte of a decimal number, or those of pairs of hexadecimal
+/// digits.
+pub(crate) fn put(bytes: &mut Bytes, place: &str, digits: &str, is_hex: bool) {
+    let mut at = number_in(place);
+    for digits in digits.as_bytes().chunks(if is_hex { 2 } else { 3 }) {
+        let digits = from_utf8(digits).unwrap_or("");
+        let byte = u8::from_str_radix(digits, if is_hex { 16 } else { 10 }).unwrap_or(0);
+        if at < bytes.len() {
+            bytes.set(at, byte);
+        }
+        at = at.saturating_add(1);
+    }
 }
 
 /// Changes bytes as some words say.
-pub(crate) fn change_all(bytes: &mut Bytes, words: &str) -> Result<(), Memory> {
+pub(crate) fn change_all(bytes: &mut Bytes, words: &str, is_hex: bool) -> Result<(), Memory> {
     for word in words.split_whitespace() {
         if let Some(count) = word.strip_prefix("..") {
-            bytes.truncate(count.parse::<usize>().unwrap_or(0));
+            bytes.truncate(number_in(count));
         } else if let Some(byte) = word.strip_prefix('+') {
-            bytes.push(byte_in(byte))?;
-        } else {
-            let (place, byte) = place_in(word);
-            let place = place.unsigned_abs() as usize;
-            if place < bytes.len() {
-                bytes.set(place, byte_in(byte));
-            }
+            bytes.push(byte.parse::<u8>().unwrap_or(0))?;
+        } else if let Some((place, digits)) = word.split_once(':') {
+            put(bytes, place, digits, is_hex);
         }
     }
     Ok(())
 }
 
 /// The bytes as some words change them.
-pub(crate) fn changed(bytes: &Bytes, words: &str) -> Result<Bytes, Memory> {
+pub(crate) fn changed(bytes: &Bytes, words: &str, is_hex: bool) -> Result<Bytes, Memory> {
     let mut copy = bytes.copy()?;
-    change_all(&mut copy, words)?;
+    change_all(&mut copy, words, is_hex)?;
     Ok(copy)
 }
 

@@ -1,7 +1,9 @@
 //! What a file keeps, in words.
 ghost use Rattle.std.specs.Prelude.{◌≤◌, length};
 
-use crate::tell::push_listed;
+use crate::digits::changed;
+use crate::tell::push_numbers;
+use crate::told::Told;
 use afl_outside::Disk;
 use cell_values::{Bytes, List, Memory};
 use chunk_map::{DirEntry, Directory};
@@ -9,88 +11,88 @@ use file_meaning::Found;
 use file_reading::read_found;
 use page_chain::OpenCause;
 use page_file::PageFile;
-use test_kit::{disk_of, open, push_counts, push_text, push_word};
+use test_kit::{disk_of, open, push_counts};
 use version_catalog::{BlobAt, CatalogArray};
 
-/// Adds pages, and ends the line.
-fn push_pages(out: &mut String, pages: &List<u32>) -> Result<(), Memory> {
-    push_listed(out, pages.as_slice())?;
-    push_word(out, "\n")
-}
-
 /// Adds an entry: its chunk number, how many bytes its payload has, which commit wrote it, and its pages.
-fn push_entry(out: &mut String, entry: &DirEntry) -> Result<(), Memory> {
-    push_word(out, "  chunk ")?;
-    push_counts(out, entry.at.as_slice())?;
-    write!(
-        out,
-        ": {} bytes, commit {}, pages",
-        entry.length, entry.birth
-    )?;
-    push_pages(out, &entry.pages)
+fn push_entry(out: &mut Told, entry: &DirEntry) {
+    out.word("  chunk ");
+    let told = push_counts(&mut out.text, entry.at.as_slice());
+    out.note(told);
+    out.word(": ");
+    out.number(entry.length);
+    out.word(" bytes, commit ");
+    out.number(entry.birth);
+    out.word(", pages");
+    push_numbers(out, &entry.pages);
 }
 
-fn push_version(
-    out: &mut String,
-    number: u32,
-    at: &BlobAt,
-    directory: &Directory,
-) -> Result<(), Memory> {
-    write!(out, " version {number}: {} bytes, pages", at.length)?;
-    push_pages(out, &at.pages)?;
+fn push_version(out: &mut Told, number: u32, at: &BlobAt, directory: &Directory) {
+    out.word(" version ");
+    out.number(u64::from(number));
+    out.word(": ");
+    out.number(at.length);
+    out.word(" bytes, pages");
+    push_numbers(out, &at.pages);
     for entry in directory.entries.as_slice() {
-        push_entry(out, entry)?;
+        push_entry(out, entry);
     }
-    Ok(())
 }
 
-fn push_array(out: &mut String, array: &CatalogArray, row: &List<Directory>) -> Result<(), Memory> {
-    push_word(out, "array ")?;
-    push_text(out, array.entry.name.as_slice())?;
-    write!(out, ", next {}\n", array.entry.next)?;
+fn push_array(out: &mut Told, array: &CatalogArray, row: &List<Directory>) {
+    out.word("array ");
+    out.name(array.entry.name.as_slice());
+    out.word(", next ");
+    out.number(u64::from(array.entry.next));
+    out.word("\n");
     for (place, number) in array.entry.versions.as_slice().iter().enumerate() {
         if let (Some(at), Some(directory)) = (array.directories.get(place), row.get(place)) {
-            push_version(out, *number, at, directory)?;
+            push_version(out, *number, at, directory);
         }
     }
-    Ok(())
 }
 
-fn push_found(out: &mut String, found: &Found) -> Result<(), Memory> {
-    push_word(out, "catalogue in pages")?;
-    push_pages(out, &found.chain)?;
+fn push_found(out: &mut Told, found: &Found) {
+    out.word("catalogue in pages");
+    push_numbers(out, &found.chain);
     for pages in found.logged.as_slice() {
-        push_word(out, "record in pages")?;
-        push_pages(out, pages)?;
+        out.word("record in pages");
+        push_numbers(out, pages);
     }
-    for (place, array) in found.catalog.arrays.as_slice().iter().enumerate() {
-        if let Some(row) = found.directories.get(place) {
-            push_array(out, array, row)?;
-        }
+    for (array, row) in found
+        .catalog
+        .arrays
+        .as_slice()
+        .iter()
+        .zip(found.directories.as_slice())
+    {
+        push_array(out, array, row);
     }
-    Ok(())
 }
 
-fn push_cause(out: &mut String, cause: OpenCause) -> Result<(), Memory> {
-    Ok(writeln!(out, "{cause}")?)
+fn push_cause(out: &mut Told, cause: OpenCause) -> Result<(), Memory> {
+    let text = &mut out.text;
+    Ok(writeln!(text, "{cause}")?)
 }
 
-fn push_file<D: Disk>(out: &mut String, file: &mut PageFile<D>) -> Result<(), Memory>
+fn push_file<D: Disk>(out: &mut Told, file: &mut PageFile<D>) -> Result<(), Memory>
     requires { length file.old.slots.records ≤ 64 }
 {
-    match read_found(*out.allocator(), file) {
+    match read_found(out.alloc(), file) {
         Ok(found) => {
-            let told = push_found(out, &found);
+            push_found(out, &found);
             drop(found);
-            told
+            Ok(())
         }
         Err(cause) => push_cause(out, cause),
     }
 }
 
-/// Adds what a file opens as.
-pub(crate) fn push_opened(out: &mut String, file: Bytes) -> Result<(), Memory> {
-    match open(disk_of(*out.allocator(), file, None)?) {
+/// Adds what a file opens as where it is changed.
+pub(crate) fn push_opened(out: &mut Told, file: &Bytes, changes: &str) -> Result<(), Memory> {
+    let alloc = out.alloc();
+    let disk = disk_of(alloc, changed(file, changes, true)?, None)?;
+    match open(disk) {
         Ok(mut file) => {
             let told = push_file(out, &mut file);
             drop(file);

@@ -1,59 +1,52 @@
 //! What is told of a core.
 
+use crate::told::Told;
 use cell_values::{List, Memory};
 use event_core::{Core, CorePin, VersionPages};
 use logical_plan::Names;
-use std::str::from_utf8;
-use test_kit::{push_word, push_words};
 use version_reaper::{PageSet, live};
 
-/// Adds numbers, each behind a space.
-pub(crate) fn push_listed(out: &mut String, numbers: &[u32]) -> Result<(), Memory> {
-    for number in numbers {
-        write!(out, " {number}")?;
+/// Adds numbers, each behind a space, and ends the line.
+pub(crate) fn push_numbers(out: &mut Told, numbers: &List<u32>) {
+    for number in numbers.as_slice() {
+        out.word(" ");
+        out.number(u64::from(*number));
     }
-    Ok(())
+    out.word("\n");
 }
 
-pub(crate) fn push_numbers(
-    out: &mut String,
-    title: &str,
-    numbers: &List<u32>,
-) -> Result<(), Memory> {
-    push_words(out, &[title, ":"])?;
-    push_listed(out, numbers.as_slice())?;
-    push_word(out, "\n")
-}
-
-pub(crate) fn push_names(out: &mut String, names: &Names) -> Result<(), Memory> {
+pub(crate) fn push_names(out: &mut Told, names: &Names) {
     for array in names.arrays.as_slice() {
-        let name = from_utf8(array.name.as_slice()).unwrap_or("no text");
-        write!(out, "  array {name}, next {}, ", array.next)?;
-        push_numbers(out, "versions", &array.versions)?;
+        out.word("  array ");
+        out.name(array.name.as_slice());
+        out.word(", next ");
+        out.number(u64::from(array.next));
+        out.word(", versions:");
+        push_numbers(out, &array.versions);
     }
-    Ok(())
 }
 
-fn push_versions(out: &mut String, versions: &[VersionPages]) -> Result<(), Memory> {
+fn push_versions(out: &mut Told, versions: &[VersionPages]) {
     for version in versions {
-        let name = from_utf8(version.name.as_slice()).unwrap_or("no text");
-        write!(out, "  version {name}@{}, ", version.version)?;
-        push_numbers(out, "pages", &version.pages)?;
+        out.word("  version ");
+        out.name(version.name.as_slice());
+        out.word("@");
+        out.number(u64::from(version.version));
+        out.word(", pages:");
+        push_numbers(out, &version.pages);
     }
-    Ok(())
 }
 
-fn push_pins(out: &mut String, pins: &[CorePin]) -> Result<(), Memory> {
+fn push_pins(out: &mut Told, pins: &[CorePin]) {
     for pin in pins {
-        write!(
-            out,
-            "pin of session {} at place {}, which keeps\n",
-            pin.session, pin.place
-        )?;
-        push_names(out, &pin.names)?;
-        push_versions(out, pin.pages.as_slice())?;
+        out.word("pin of session ");
+        out.number(u64::from(pin.session));
+        out.word(" at place ");
+        out.number(pin.place);
+        out.word(", which keeps\n");
+        push_names(out, &pin.names);
+        push_versions(out, pin.pages.as_slice());
     }
-    Ok(())
 }
 
 /// Adds the pages of versions to some lists.
@@ -87,23 +80,31 @@ fn live_in(core: &Core) -> Result<PageSet, Memory> {
 }
 
 /// Adds the pages that are live.
-fn push_live(out: &mut String, core: &Core) -> Result<(), Memory> {
-    push_word(out, "live:")?;
+fn push_live(out: &mut Told, core: &Core) -> Result<(), Memory> {
     let set = live_in(core)?;
+    out.word("live:");
     for page in 1..core.limit {
         if set.has(page) {
-            push_listed(out, &[page])?;
+            out.word(" ");
+            out.number(u64::from(page));
         }
     }
     drop(set);
-    push_word(out, "\n")
+    out.word("\n");
+    Ok(())
 }
 
-pub(crate) fn push_core(out: &mut String, core: &Core) -> Result<(), Memory> {
-    write!(out, "entries {}, limit {}\n", core.entries, core.limit)?;
-    push_names(out, &core.names)?;
-    push_versions(out, core.pages.as_slice())?;
-    push_pins(out, core.pins.as_slice())?;
+pub(crate) fn push_core(out: &mut Told, core: &Core) -> Result<(), Memory> {
+    out.word("entries ");
+    out.number(core.entries);
+    out.word(", limit ");
+    out.number(u64::from(core.limit));
+    out.word("\n");
+    push_names(out, &core.names);
+    push_versions(out, core.pages.as_slice());
+    push_pins(out, core.pins.as_slice());
     push_live(out, core)?;
-    push_numbers(out, "free", &core.free)
+    out.word("free:");
+    push_numbers(out, &core.free);
+    Ok(())
 }

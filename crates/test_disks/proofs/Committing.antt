@@ -24,10 +24,10 @@ use Rattle.store_state.specs.Standings.{Standing}
 use Rattle.array_store.specs.Steps.{sealed_ledger}
 use Rattle.test_disks.specs.declared.stores.holds.Hold.{Hold}
 use Rattle.test_disks.specs.declared.stores.holds.Hold.TheVariants as hold
-use Rattle.test_disks.specs.declared.disks.quiet_disk.QuietDisk.{QuietDisk}
+use Rattle.test_quiet.specs.declared.quiet_disk.QuietDisk.{QuietDisk}
 use Rattle.test_disks.specs.Holds.{IsHold, IsPinOf, LeavesAll, LeavesOthers, LeavesTried}
-use Rattle.test_disks.specs.Quiet.{quiet_moment}
-use Rattle.test_disks.proofs.Holding.{all_then_all, held_over_entry, held_over_note, noted_pin, notes_leave_all, nothing_leaves, others_is_none, others_then_all, reap_leaves_all}
+use Rattle.test_quiet.specs.Quiet.{quiet_moment}
+use Rattle.test_disks.proofs.Holding.{all_then_all, held_over_entry, held_over_note, noted_pin, notes_leave_all, nothing_leaves, others_is_none, others_then_all, reap_leaves_all, untried_of}
 
 -- ---- preparing
 
@@ -102,4 +102,4 @@ others_then own s a b c e l f = let g : LeavesOthers own b c = subst (λ (t : �
 
 -- a session that has an untried pin is pinned
 pub untried_is_pinned : (ledger : LedgerState) (session : ℕ) (held : Hold) (pinned : Pinned) → held ≡ hold.Pinned pinned → IsHold ledger session held → is_pinned session (history ledger) ≡ true
-untried_is_pinned ledger session held pinned e h = is_pinned_now ledger session pinned (subst (IsHold ledger session) e h).pin
+untried_is_pinned ledger session held pinned e h = is_pinned_now ledger session pinned (untried_of ledger session held pinned e h).pin

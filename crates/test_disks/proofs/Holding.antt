@@ -7,9 +7,10 @@ use Rattle.afl_outside.specs.Counts.{risen}
 use Rattle.afl_outside.specs.Disk.{DiskState}
 use Rattle.event_core.specs.declared.entry.Entry.{Entry}
 use Rattle.event_core.specs.declared.entry.Entry.TheVariants.{Pin, Unpin, Commit, Reap}
+use Rattle.logical_plan.specs.declared.names.Names.{Names}
 use Rattle.plan_changes.specs.Stored.{AreStored}
 use Rattle.event_core.specs.Allowed.{is_pinned}
-use Rattle.event_core.specs.History.{History, leaves_pin, pin_before}
+use Rattle.event_core.specs.History.{History, leaves_pin, names_at, pin_before}
 use Rattle.event_core.proofs.Tests.{eq_sym}
 use Rattle.store_ledger.specs.declared.note.Note.{Note}
 use Rattle.store_ledger.specs.declared.note.NoteKind.TheVariants.{Fault}
@@ -17,9 +18,10 @@ use Rattle.store_ledger.specs.declared.pinned.Pinned.{Pinned}
 use Rattle.store_ledger.specs.Ledger.{LedgerState, IsOpenPin, has_note, has_under, history, is_noted, is_under, note_now, with_entries, with_fault, with_notes, is_tried, is_fault}
 use Rattle.store_ledger.proofs.Pins.{one_more}
 use Rattle.store_state.specs.Calls.{NotesFault}
+use Rattle.store_state.specs.Standings.{Standing, with_entries as store_entries}
 use Rattle.test_disks.specs.declared.stores.holds.Hold.{Hold}
 use Rattle.test_disks.specs.declared.stores.holds.Hold.TheVariants as hold
-use Rattle.test_disks.specs.Holds.{IsHold, IsPinOf, IsUntried, LeavesAll, LeavesOthers}
+use Rattle.test_disks.specs.Holds.{HasNoPins, IsHold, IsPinOf, IsUntried, LeavesAll, LeavesOthers}
 
 -- ---- one more entry
 
@@ -166,3 +168,62 @@ open_outlasts old new session pinned f p = f session (hold.Tried pinned) p
 
 pub still_open : (old new : LedgerState) (pinned : Pinned) → LeavesAll old new → IsOpenPin old pinned → AreStored pinned.names → IsOpenPin new pinned
 still_open old new pinned f o stored = (f pinned.session (hold.Tried pinned) (record { its = refl; begun = o; stored = stored })).begun
+
+-- a read leaves a pin open
+open_with : (b : Bool) (ledger : LedgerState) (session : ℕ) (pinned : Pinned) → IsOpenPin ledger pinned →
+    IsOpenPin (if b then ledger else with_notes (note_now Fault ledger session ∷ []) ledger) pinned
+open_with true ledger session pinned o = o
+open_with false ledger session pinned o = record { before = o.before; begun = o.begun; place = o.place; names = o.names }
+
+pub notes_leave_open : (old new : DiskState) (session : ℕ) (before after : LedgerState) (pinned : Pinned) → NotesFault old new session before after → IsOpenPin before pinned →
+    IsOpenPin after pinned
+notes_leave_open old new session before after pinned n o = elim (cases_lt new.faults (risen old.faults)) [
+  | inl less ↦ subst (λ (l : LedgerState). IsOpenPin l pinned) (sym (n.still (λ rose. omega (arith, less, rose)))) o
+  | inr rose ↦ subst (λ (l : LedgerState). IsOpenPin l pinned) (sym (n.rose rose)) (open_with (is_noted is_fault before session) before session pinned o)
+]
+
+-- ---- what a session has, by which kind that is
+
+pub untried_of : (ledger : LedgerState) (session : ℕ) (held : Hold) (pinned : Pinned) → held ≡ hold.Pinned pinned → IsHold ledger session held → IsUntried ledger session pinned
+untried_of ledger session held pinned e h = subst (IsHold ledger session) e h
+
+pub tried_of : (ledger : LedgerState) (session : ℕ) (held : Hold) (pinned : Pinned) → held ≡ hold.Tried pinned → IsHold ledger session held → IsPinOf ledger session pinned
+tried_of ledger session held pinned e h = subst (IsHold ledger session) e h
+
+-- ---- steps of stores
+
+pub same_leaves_all : {D : Type 0} (s new : Standing D) → new ≡ s → LeavesAll s.ledger new.ledger
+same_leaves_all s new e = subst (λ (x : Standing _). LeavesAll s.ledger x.ledger) (sym e) (nothing_leaves s.ledger)
+
+pub reap_leaves : {D : Type 0} (comes : Bool) (s new : Standing D) → new ≡ (if comes then store_entries (Reap ∷ []) s else s) → LeavesAll s.ledger new.ledger
+reap_leaves true s new e = subst (λ (x : Standing _). LeavesAll s.ledger x.ledger) (sym e) (reap_leaves_all s.ledger)
+reap_leaves false s new e = same_leaves_all s new e
+
+pub pin_leaves : {D : Type 0} (s new : Standing D) (own : ℕ) → new ≡ store_entries (Pin own ∷ []) s → LeavesOthers own s.ledger new.ledger
+pin_leaves s new own e = subst (λ (x : Standing _). LeavesOthers own s.ledger x.ledger) (sym e) (pin_leaves_others s.ledger own)
+
+-- the names of a pin are stored ones
+pub pin_is_stored : (old : LedgerState) (session : ℕ) (names : Names) (pinned : Pinned) → names ≡ names_at old.base (history old) → AreStored names →
+    pinned ≡ record { session = session; place = length old.entries; names = names_at old.base (history old) } → AreStored pinned.names
+pin_is_stored old session names pinned same stored e = subst AreStored (same ∙ sym (ap (λ (p : Pinned). p.names) e)) stored
+
+pub begun_is_untried : (old new : LedgerState) (session : ℕ) (names : Names) (pinned : Pinned) → names ≡ names_at old.base (history old) → AreStored names →
+    pinned ≡ record { session = session; place = length old.entries; names = names_at old.base (history old) } → IsOpenPin new pinned → is_noted is_tried new session ≡ false →
+    IsUntried new session pinned
+begun_is_untried old new session names pinned same stored e opened none = record {
+  pin = record { its = ap (λ (p : Pinned). p.session) e; begun = opened; stored = pin_is_stored old session names pinned same stored e };
+  first = none;
+}
+
+module _ {D : Type 0} (s new : Standing D) (own : ℕ) (pinned : Pinned) (p : IsPinOf s.ledger own pinned) (e : new ≡ store_entries (Unpin pinned.session ∷ []) s) where
+  pub unpin_leaves : LeavesOthers own s.ledger new.ledger
+  unpin_leaves = subst (λ (x : Standing D). LeavesOthers own s.ledger x.ledger) (sym e)
+      (subst (λ (t : ℕ). LeavesOthers own s.ledger (with_entries (Unpin t ∷ []) s.ledger)) (sym p.its) (unpin_leaves_others s.ledger own))
+
+  pub unpin_leaves_none : IsHold new.ledger own hold.Free
+  unpin_leaves_none = subst (λ (x : Standing D). IsHold x.ledger own hold.Free) (sym e)
+      (subst (λ (t : ℕ). IsHold (with_entries (Unpin t ∷ []) s.ledger) own hold.Free) (sym p.its) (unpin_frees s.ledger own))
+
+-- a new store has none
+pub new_has_no_pins : (ledger : LedgerState) → ledger.entries ≡ [] → HasNoPins ledger
+new_has_no_pins ledger e session = ap (λ (entries : List Entry). is_pinned session (reverse entries)) e

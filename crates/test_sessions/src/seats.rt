@@ -8,7 +8,7 @@ use std::sync::Wait;
 use std::thread::Threads;
 use test_disks::{count_of, limits_of};
 use test_kit::push_word;
-use test_stores::push_threads;
+use test_threads::push_threads;
 
 /// Adds what comes of a line.
 pub(crate) fn push_seats<R: Threads + Wait + Sync>(

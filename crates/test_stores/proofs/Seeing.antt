@@ -4,12 +4,13 @@ use Rattle.afl_outside.specs.Disk.{Moment}
 use Rattle.turn_lock.proofs.Gathering.{places_more}
 use Rattle.event_core.specs.Allowed.{is_pinned}
 use Rattle.store_state.specs.declared.state.event.Event.{Event}
-use Rattle.snapshot_manager.specs.Told.{entries_in, told}
+use Rattle.snapshot_manager.specs.Told.{entries_in, ledger_of, told}
 use Rattle.snapshot_manager.specs.declared.seat.Seat.{Seat}
 use Rattle.snapshot_manager.specs.declared.shared.Shared.{Shared}
-use Rattle.snapshot_manager.specs.Seats.{AreIdleSeats, AreNewSeats, IsIdle, IsNewSeat, IsSeatOf, seen, session_of, HoldsPin, start, store_seen}
-use Rattle.test_stores.specs.Visits.{IsFree}
+use Rattle.snapshot_manager.specs.Seats.{AreIdleSeats, AreNewSeats, IsIdle, IsNewSeat, IsSameSeat, IsSeatOf, seen, session_of, HoldsPin, start, store_seen}
+use Rattle.test_stores.specs.Visits.{IsFree, IsPinOf}
 use Rattle.logical_plan.specs.declared.parts.Leaf.{Leaf}
+use Rattle.store_ledger.specs.Ledger.{IsOpenPin}
 use Rattle.store_ledger.specs.declared.pinned.Pinned.{Pinned}
 use Rattle.store_state.specs.Calls.{chunks_at}
 use Rattle.snapshot_manager.specs.Turns.{Adds}
@@ -48,3 +49,14 @@ module _ {D : Type 0} (moment : D → Moment) (shared : Shared D) where
   chunks_stay old new pinned leaf of holds adds =
       ap (λ (es : List Event). chunks_at (told (start moment shared) es) pinned.place leaf) (adds.grown ∙ append-nil (seen old ++ adds.others))
       ∙ (pins_see_the_same D (start moment shared) (seen old) adds.others pinned of.sealed holds.open_pin).chunks leaf
+
+  -- a pin is held where nothing more was seen
+  pub pin_stays : (old new : Seat D) (pinned : Pinned) → IsPinOf moment shared old pinned → IsSameSeat old new → seen new ≡ seen old
+      → IsPinOf moment shared new pinned
+  pin_stays old new pinned pin same e = record {
+    holds = record {
+      own = pin.holds.own ∙ sym same.session;
+      open_pin = subst (λ (es : List Event). IsOpenPin (ledger_of (start moment shared) es) pinned) (sym e) pin.holds.open_pin;
+    };
+    stored = pin.stored;
+  }

@@ -1,4 +1,4 @@
-//! Stores that sessions share: the steps of sessions that keep their seats, runs of three sessions on one thread, and sessions on threads.
+//! Stores that sessions share: the steps of sessions that keep their seats, and runs of three sessions on one thread.
 #![tactic(auto)]
 
 mod reading;
@@ -6,10 +6,10 @@ mod runs;
 mod seats;
 mod steps;
 mod tally;
-mod threads;
 mod visitors;
-mod whole;
 
 pub use runs::{Run, answer_line, push_finished, shared_database};
+pub use seats::{taken, with_seat};
+pub use steps::commit_once;
+pub use tally::tallied;
 pub use visitors::Visitor;
-pub use whole::push_threads;

@@ -8,7 +8,7 @@ ghost use Rattle.test_stores.specs.Visits.{IsHeld, IsPinOf};
 
 use afl_outside::Disk;
 use array_geom::Chunk;
-use cell_values::{Bytes, List, Memory};
+use cell_values::{Bytes, List, Memory, Row};
 use logical_plan::Leaf;
 use result_print::dcsv;
 use snapshot_manager::{Seat, Shared};
@@ -50,6 +50,14 @@ fn chunk_at<D: Disk, R: Wait>(
 /// How many chunks a version may have here.
 const CHUNKS: usize = 100;
 
+/// The rows of a version as text, behind its attributes' names.
+fn lines_of(alloc: Global, leaf: &Leaf, rows: List<Row>) -> Result<Bytes, ReadFault> {
+    match dcsv(alloc, &leaf.schema, rows.as_slice()) {
+        Ok(text) => Ok(text),
+        Err(Memory) => Err(ReadFault::Memory),
+    }
+}
+
 /// What a version holds under a pin: its attributes' names, and its cells in lines, chunk by chunk.
 fn cells<D: Disk, R: Wait>(
     rt: &R,
@@ -71,14 +79,11 @@ fn cells<D: Disk, R: Wait>(
         let found = chunk_at(rt, alloc, shared, seat, pinned, leaf, place);
         match add_read(&mut rows, leaf, found) {
             Ok(true) => {}
-            Ok(false) => break,
+            Ok(false) => return lines_of(alloc, leaf, rows),
             Err(fault) => return Err(fault),
         }
     }
-    match dcsv(alloc, &leaf.schema, rows.as_slice()) {
-        Ok(text) => Ok(text),
-        Err(Memory) => Err(ReadFault::Memory),
-    }
+    lines_of(alloc, leaf, rows)
 }
 
 fn cells_under<D: Disk, R: Wait>(

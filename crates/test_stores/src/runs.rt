@@ -14,9 +14,7 @@ use snapshot_manager::{Seat, Shared};
 use std::alloc::Global;
 use std::sync::Wait;
 use std::thread::Threads;
-use test_disks::{
-    Answer, SilentDisk, Step, let_go_store, new_database, opened, step_of, with_change,
-};
+use test_disks::{Answer, SilentDisk, let_go_store, new_database, opened, step_of, with_change};
 
 /// A store that three sessions share.
 pub struct Run {
@@ -30,25 +28,6 @@ pub struct Run {
     pub room: Vec<Seat<SilentDisk>>,
 }
 
-/// What a step of a session is answered.
-fn answer_to<R: Threads + Wait + Sync>(
-    rt: &R,
-    alloc: Global,
-    run: &mut Run,
-    session: &str,
-    step: Step<'_>,
-) -> Answer
-    requires { IsRun run.old }
-    ensures { IsRun run.new }
-{
-    match session {
-        "0" => run.first.answer(rt, alloc, &run.shared, step),
-        "1" => run.second.answer(rt, alloc, &run.shared, step),
-        "2" => run.third.answer(rt, alloc, &run.shared, step),
-        _ => Answer::Unknown,
-    }
-}
-
 /// What a line is answered, as `pin 0`, `change 0 TEXT` or `reap`, by which all pages become free that nobody can name.
 pub fn answer_line<R: Threads + Wait + Sync>(
     rt: &R,
@@ -60,7 +39,12 @@ pub fn answer_line<R: Threads + Wait + Sync>(
     ensures { IsRun run.new }
 {
     match step_of(line) {
-        Some((session, step)) => answer_to(rt, alloc, run, session, step),
+        Some((session, step)) => match session {
+            "0" => run.first.answer(rt, alloc, &run.shared, step),
+            "1" => run.second.answer(rt, alloc, &run.shared, step),
+            "2" => run.third.answer(rt, alloc, &run.shared, step),
+            _ => Answer::Unknown,
+        },
         None => match line {
             "reap" => match run.shared.reap(rt, &mut run.reaper) {
                 Ok(comes) => Answer::Reaped(comes),
@@ -155,7 +139,6 @@ pub fn shared_database<R: Threads + Sync>(
 }
 
 /// The store, taken back from all.
-#[tactic(auto, using(crate::proofs::Seeing::none_are_idle))]
 fn finished(run: Run) -> Store<SilentDisk>
     requires { IsRun run }
 {
@@ -168,13 +151,13 @@ fn finished(run: Run) -> Store<SilentDisk>
         room,
     } = run;
     let Visitor { seat, .. } = first;
-    let seats = with_seat(&shared, room, seat);
+    let one = with_seat(&shared, room, seat);
     let Visitor { seat, .. } = second;
-    let seats = with_seat(&shared, seats, seat);
+    let two = with_seat(&shared, one, seat);
     let Visitor { seat, .. } = third;
-    let seats = with_seat(&shared, seats, seat);
-    let seats = with_seat(&shared, seats, reaper);
-    shared.finish(List::from_vec(seats))
+    let three = with_seat(&shared, two, seat);
+    let all = with_seat(&shared, three, reaper);
+    shared.finish(List::from_vec(all))
 }
 
 /// Takes the store back from all, and adds what its history tells.

@@ -8,7 +8,7 @@ use cell_values::List;
 use snapshot_manager::{Seat, Shared};
 
 /// The last of seats that weren't used yet.
-pub(crate) fn taken<D: Disk>(shared: &Shared<D>, seats: &mut List<Seat<D>>) -> Seat<D>
+pub fn taken<D: Disk>(shared: &Shared<D>, seats: &mut List<Seat<D>>) -> Seat<D>
     requires some { 0 < length seats.old }
     requires free { All (IsFree D.moment shared.now) seats.old }
     ensures count { length seats.old ≡ length seats.new + 1 }
@@ -22,7 +22,7 @@ pub(crate) fn taken<D: Disk>(shared: &Shared<D>, seats: &mut List<Seat<D>>) -> S
 }
 
 /// The seats with one more, for which there is room.
-pub(crate) fn with_seat<D: Disk>(
+pub fn with_seat<D: Disk>(
     shared: &Shared<D>,
     mut seats: Vec<Seat<D>>,
     seat: Seat<D>,

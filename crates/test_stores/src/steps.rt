@@ -1,8 +1,5 @@
 //! Steps of a session at a shared store.
-ghost use Rattle.std.specs.Prelude.{◌≡◌, Option, IfSome};
-ghost use Rattle.array_geom.specs.declared.chunk.Changed.{Changed};
-ghost use Rattle.plan_changes.specs.Typed.{IsTypedFor};
-ghost use Rattle.snapshot_manager.specs.Changes.{AreValid, ComesWith};
+ghost use Rattle.std.specs.Prelude.{◌≡◌};
 ghost use Rattle.store_state.specs.At.{standing};
 ghost use Rattle.store_state.specs.Events.{events};
 ghost use Rattle.snapshot_manager.specs.Starts.{start_of};
@@ -11,31 +8,14 @@ ghost use Rattle.test_disks.specs.Offers.{IsOffer};
 ghost use Rattle.test_stores.specs.Visits.{IsFree, IsHeld, IsPinOf, IsUntold, IsUntried};
 
 use afl_outside::Disk;
-use array_geom::Changed;
 use cell_values::Name;
-use plan_changes::{Change, changed_name, has_its_names, newest_of};
+use plan_changes::{changed_name, has_its_names, newest_of};
 use snapshot_manager::{Commit, CommitFault, Seat, Shared, Store, StoreTurn};
 use std::alloc::Global;
 use std::sync::Wait;
 use std::thread::Threads;
 use store_ledger::{PinFault, Pinned};
 use test_disks::{Answer, Hold, Offer, offer_over};
-
-fn begun<D: Disk, R: Wait>(rt: &R, shared: &Shared<D>, seat: &mut Seat<D>) -> (Hold, Answer)
-    requires seat { IsSeatOf shared.now seat.old × IsIdle seat.old }
-    requires none { HoldsNone D.moment shared.now seat.old }
-    ensures seat { IsSeatOf shared.now seat.new × IsIdle seat.new }
-    ensures held { IsHeld D.moment shared.now seat.new result.0 }
-{
-    match shared.pin(rt, seat) {
-        Ok(pinned) => {
-            let place = pinned.place;
-            (Hold::Pinned(pinned), Answer::At { place })
-        }
-        Err(PinFault::HistoryFull { entries }) => (Hold::Free, Answer::HistoryFull { entries }),
-        Err(PinFault::Memory) => (Hold::Free, Answer::Memory),
-    }
-}
 
 /// A session that has no pin begins to have one.
 pub(crate) fn pin<D: Disk, R: Wait>(
@@ -50,20 +30,17 @@ pub(crate) fn pin<D: Disk, R: Wait>(
     ensures held { IsHeld D.moment shared.now seat.new result.0 }
 {
     match held {
-        Hold::Free => begun(rt, shared, seat),
+        Hold::Free => match shared.pin(rt, seat) {
+            Ok(pinned) => {
+                let place = pinned.place;
+                (Hold::Pinned(pinned), Answer::At { place })
+            }
+            Err(PinFault::HistoryFull { entries }) => (Hold::Free, Answer::HistoryFull { entries }),
+            Err(PinFault::Memory) => (Hold::Free, Answer::Memory),
+        },
         Hold::Pinned(pinned) => (Hold::Pinned(pinned), Answer::HasPin),
         Hold::Tried(pinned) => (Hold::Tried(pinned), Answer::HasPin),
     }
-}
-
-fn ended<D: Disk, R: Wait>(rt: &R, shared: &Shared<D>, seat: &mut Seat<D>, pinned: Pinned) -> Answer
-    requires seat { IsSeatOf shared.now seat.old × IsIdle seat.old }
-    requires pin { IsPinOf D.moment shared.now seat.old pinned }
-    ensures seat { IsSeatOf shared.now seat.new × IsIdle seat.new }
-    ensures none { HoldsNone D.moment shared.now seat.new }
-{
-    shared.unpin(rt, seat, pinned);
-    Answer::Done
 }
 
 /// The pin of a session goes, if it has one.
@@ -80,8 +57,14 @@ pub(crate) fn unpin<D: Disk, R: Wait>(
 {
     match held {
         Hold::Free => Answer::HasNoPin,
-        Hold::Pinned(pinned) => ended(rt, shared, seat, pinned),
-        Hold::Tried(pinned) => ended(rt, shared, seat, pinned),
+        Hold::Pinned(pinned) => {
+            shared.unpin(rt, seat, pinned);
+            Answer::Done
+        }
+        Hold::Tried(pinned) => {
+            shared.unpin(rt, seat, pinned);
+            Answer::Done
+        }
     }
 }
 
@@ -129,33 +112,6 @@ fn committed<D: Disk, R: Wait>(
     shared: &Shared<D>,
     seat: &mut Seat<D>,
     pinned: &Pinned,
-    change: Change,
-    changed: Option<Changed>,
-    name: &Option<Name>,
-) -> Answer
-    requires untold { IsUntold D.moment shared.now }
-    requires seat { IsSeatOf shared.now seat.old × IsIdle seat.old }
-    requires pin { IsUntried D.moment shared.now seat.old pinned.now }
-    requires typed { IsTypedFor pinned.now.names change }
-    requires comes { ComesWith change changed }
-    requires valid { IfSome changed AreValid }
-    ensures seat { IsSeatOf shared.now seat.new × IsIdle seat.new }
-    ensures pin { IsPinOf D.moment shared.now seat.new pinned.now }
-{
-    has_its_names(&change);
-    match shared.commit(rt, alloc, seat, pinned, change, changed) {
-        Ok(Commit::Done { place }) => Answer::At { place },
-        Ok(Commit::Stale(turn)) => given_back(rt, shared, seat, turn, name),
-        Err(fault) => answer_of(fault),
-    }
-}
-
-fn committed_offer<D: Disk, R: Wait>(
-    rt: &R,
-    alloc: Global,
-    shared: &Shared<D>,
-    seat: &mut Seat<D>,
-    pinned: &Pinned,
     offer: Offer,
 ) -> Answer
     requires untold { IsUntold D.moment shared.now }
@@ -167,7 +123,12 @@ fn committed_offer<D: Disk, R: Wait>(
 {
     let Offer { change, changed } = offer;
     let name = changed_name(&change).copy().ok();
-    committed(rt, alloc, shared, seat, pinned, change, changed, &name)
+    has_its_names(&change);
+    match shared.commit(rt, alloc, seat, pinned, change, changed) {
+        Ok(Commit::Done { place }) => Answer::At { place },
+        Ok(Commit::Stale(turn)) => given_back(rt, shared, seat, turn, &name),
+        Err(fault) => answer_of(fault),
+    }
 }
 
 /// The change that a text is under a session's pin, committed under it.
@@ -190,7 +151,7 @@ pub(crate) fn change<D: Disk, R: Threads + Wait + Sync>(
         Hold::Tried(pinned) => (Hold::Tried(pinned), Answer::HasUsed),
         Hold::Pinned(pinned) => match offer_over(rt, alloc, &pinned.names, text) {
             Ok(offer) => {
-                let answer = committed_offer(rt, alloc, shared, seat, &pinned, offer);
+                let answer = committed(rt, alloc, shared, seat, &pinned, offer);
                 (Hold::Tried(pinned), answer)
             }
             Err(answer) => (Hold::Pinned(pinned), answer),
@@ -199,7 +160,7 @@ pub(crate) fn change<D: Disk, R: Threads + Wait + Sync>(
 }
 
 /// A pin of a session that has none, the change that a text is, committed under it, and the unpin.
-pub(crate) fn commit_once<D: Disk, R: Threads + Wait + Sync>(
+pub fn commit_once<D: Disk, R: Threads + Wait + Sync>(
     rt: &R,
     alloc: Global,
     shared: &Shared<D>,

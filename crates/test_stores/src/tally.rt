@@ -28,7 +28,7 @@ fn push_tally(out: &mut String, entries: &[Entry], sessions: u32) -> Result<(), 
 }
 
 /// Ends a store, and adds what its history tells. Its disk is the answer.
-pub(crate) fn tallied(
+pub fn tallied(
     out: &mut String,
     store: Store<SilentDisk>,
     sessions: u32,

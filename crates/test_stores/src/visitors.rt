@@ -45,7 +45,7 @@ fn renew_once<D: Disk, R: Threads + Wait + Sync>(
     };
     let stored = is_made(commit_once(rt, alloc, shared, seat, store.as_bytes()));
     let removed = is_made(commit_once(rt, alloc, shared, seat, removal.as_bytes()));
-    u64::from(stored) + u64::from(removed)
+    u64::from(stored).saturating_add(u64::from(removed))
 }
 
 fn renewed<D: Disk, R: Threads + Wait + Sync>(

@@ -1,15 +1,16 @@
 //! What aggregates of a few cells give.
 //!
 //! `aggregate sum 1:5 | 0:null` takes two sets of places into two states, merges them and tells the aggregate.
-ghost use Rattle.std.specs.Prelude.{◌+◌, ◌≤◌, length, IfOk};
+ghost use Rattle.std.specs.Prelude.{◌+◌, ◌≤◌, IfOk};
 
+use crate::words::{front_of, parts_of};
 use agg_states::AggState;
 use cell_values::{Datum, Memory, coord_of};
 use logical_plan::AggFunction;
 use std::alloc::Global;
 use test_kit::{cell_of, place_in, push_value};
 
-/// How many places a part has at most.
+/// How many places of a part are taken at most.
 const LIMIT: usize = 100;
 
 fn function_of(word: &str) -> AggFunction {
@@ -19,14 +20,6 @@ fn function_of(word: &str) -> AggFunction {
         "count(*)" => AggFunction::CountAll,
         "min" => AggFunction::Min,
         _ => AggFunction::Max,
-    }
-}
-
-/// The words before a `|`, and those behind it.
-fn parts_of<'a>(words: &'a [&'a str]) -> (&'a [&'a str], &'a [&'a str]) {
-    match words.iter().position(|word| *word == "|") {
-        Some(place) => (&words[..place], &words[place + 1..]),
-        None => (words, &[]),
     }
 }
 
@@ -42,13 +35,16 @@ fn take_place(state: &mut AggState, alloc: Global, word: &str) -> Result<(), Mem
     taken
 }
 
-fn taken(alloc: Global, function: AggFunction, words: &[&str]) -> Result<AggState, Memory>
-    requires { length words.now ≤ 100 }
+fn taken(alloc: Global, function: AggFunction, words: &str) -> Result<AggState, Memory>
     ensures { IfOk result (λ state. state.cells ≤ 100) }
 {
     let mut state = AggState::empty(function);
-    for word in words {
-        take_place(&mut state, alloc, word)?;
+    let mut count = 0;
+    for word in words.split_whitespace() {
+        if count < LIMIT {
+            take_place(&mut state, alloc, word)?;
+            count += 1;
+        }
     }
     Ok(state)
 }
@@ -57,12 +53,9 @@ fn taken(alloc: Global, function: AggFunction, words: &[&str]) -> Result<AggStat
 fn merged(
     alloc: Global,
     function: AggFunction,
-    first: &[&str],
-    second: &[&str],
-) -> Result<Datum, Memory>
-    requires first { length first.now ≤ 100 }
-    requires second { length second.now ≤ 100 }
-{
+    first: &str,
+    second: &str,
+) -> Result<Datum, Memory> {
     let first = taken(alloc, function, first)?;
     match taken(alloc, function, second) {
         Ok(second) => Ok(first.merge(second).finish()),
@@ -73,14 +66,10 @@ fn merged(
     }
 }
 
-/// Adds the aggregate of the parts of some words, unless one has too many.
-pub(crate) fn push_aggregate(out: &mut String, words: &[&str]) -> Result<(), Memory> {
-    if let [_, function, places @ ..] = words {
-        let (first, second) = parts_of(places);
-        if first.len() <= LIMIT && second.len() <= LIMIT {
-            let value = merged(*out.allocator(), function_of(function), first, second)?;
-            push_value(out, value)?;
-        }
-    }
-    Ok(())
+/// Adds the aggregate of two parts.
+pub(crate) fn push_aggregate(out: &mut String, operands: &str) -> Result<(), Memory> {
+    let (function, places) = front_of(operands);
+    let (first, second) = parts_of(places);
+    let value = merged(*out.allocator(), function_of(function), first, second)?;
+    push_value(out, value)
 }

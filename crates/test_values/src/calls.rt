@@ -1,5 +1,6 @@
 //! Calls of the value table.
 
+use crate::words::front_of;
 use cell_values::{
     CompareOp, Datum, Memory, add, and3, compare, div, mul, neg, not3, or3, rem, sub,
 };
@@ -38,8 +39,9 @@ pub(crate) fn push_one(out: &mut String, op: &str, a: &str) -> Result<(), Memory
     push_value(out, value)
 }
 
-/// Adds what a call with two operands gives.
-pub(crate) fn push_two(out: &mut String, a: &str, op: &str, b: &str) -> Result<(), Memory> {
+/// Adds what a call with two operands gives, the first of which stands before it.
+pub(crate) fn push_two(out: &mut String, a: &str, behind: &str) -> Result<(), Memory> {
+    let (op, b) = front_of(behind);
     let alloc = *out.allocator();
     let a = datum_of(alloc, a)?;
     match datum_of(alloc, b) {

@@ -1,7 +1,9 @@
 //! Coordinates, boxes and rows.
 
+use crate::show::push_corners;
+use crate::words::front_of;
 use array_rows::is_in_box;
-use cell_values::{Bounds, Broken, Datum, FaultKind, Memory, Row, row_major};
+use cell_values::{Bounds, Broken, Datum, FaultKind, Memory, Row, row_major, same_place};
 use std::cmp::Ordering;
 use test_kit::{cell_of, coord_in, fault_of, push_cell, push_coord, push_datum, push_word};
 
@@ -12,34 +14,31 @@ fn bounds_of(lo: &str, hi: &str) -> Bounds {
     }
 }
 
-/// Adds a copy of a box.
-pub(crate) fn push_bounds(out: &mut String, lo: &str, hi: &str) -> Result<(), Memory> {
+/// Adds a copy of the box of two corners.
+pub(crate) fn push_bounds(out: &mut String, corners: &str) -> Result<(), Memory> {
+    let (lo, hi) = front_of(corners);
     let copy = bounds_of(lo, hi).copy()?;
-    push_coord(out, &copy.lo)?;
-    push_word(out, " to ")?;
-    push_coord(out, &copy.hi)
+    push_corners(out, &copy)
 }
 
 /// Adds a copy of what breaks an array.
-pub(crate) fn push_broken(out: &mut String, at: &str, kind: &str) -> Result<(), Memory> {
+pub(crate) fn push_broken(out: &mut String, operands: &str) -> Result<(), Memory> {
+    let (at, kind) = front_of(operands);
     let broken = Broken {
         at: coord_in(at),
         kind: fault_of(kind).unwrap_or(FaultKind::Overflow),
     };
     let copy = broken.copy()?;
-    push_coord(out, &copy.at)?;
-    push_word(out, " ")?;
-    push_datum(out, &Datum::Bad(copy.kind))
+    let at = push_coord(out, &copy.at);
+    let space = push_word(out, " ");
+    at.and(space).and(push_datum(out, &Datum::Bad(copy.kind)))
 }
 
-/// Adds a copy of a row, whose values these words are.
-pub(crate) fn push_row(
-    out: &mut String,
-    at: &str,
-    front: &[&str],
-    last: &str,
-) -> Result<(), Memory> {
-    let cell = cell_of(*out.allocator(), front, last)?;
+/// Adds a copy of a row of two values.
+pub(crate) fn push_row(out: &mut String, operands: &str) -> Result<(), Memory> {
+    let (at, values) = front_of(operands);
+    let (first, second) = front_of(values);
+    let cell = cell_of(*out.allocator(), &[first], second)?;
     let at = coord_in(at);
     let row = Row { at, cell };
     let copy = row.copy();
@@ -48,26 +47,40 @@ pub(crate) fn push_row(
     let at = push_coord(out, &copy.at);
     let cell = push_cell(out, &copy.cell);
     drop(copy);
-    at?;
-    cell
+    at.and(cell)
 }
 
-/// Adds how two coordinates stand to each other in an array.
-pub(crate) fn push_order(out: &mut String, one: &str, other: &str) -> Result<(), Memory> {
+/// How two coordinates stand to each other in an array.
+pub(crate) fn order_of(operands: &str) -> &'static str {
+    let (one, other) = front_of(operands);
     let (one, other) = (coord_in(one), coord_in(other));
     if one.len() != other.len() {
-        return push_word(out, "no order");
+        return "no order";
     }
-    let word = match row_major(&one, &other) {
+    match row_major(&one, &other) {
         Ordering::Less => "before",
         Ordering::Equal => "equal",
         Ordering::Greater => "behind",
-    };
-    push_word(out, word)
+    }
 }
 
-/// Adds whether a coordinate lies in a box.
-pub(crate) fn push_box(out: &mut String, lo: &str, hi: &str, at: &str) -> Result<(), Memory> {
-    let is_inside = is_in_box(&bounds_of(lo, hi), &coord_in(at));
-    push_word(out, if is_inside { "inside" } else { "outside" })
+/// Whether two coordinates are one place.
+pub(crate) fn sameness_of(operands: &str) -> &'static str {
+    let (one, other) = front_of(operands);
+    if same_place(&coord_in(one), &coord_in(other)) {
+        "the same"
+    } else {
+        "another"
+    }
+}
+
+/// Whether a coordinate, behind the corners of a box, lies in it.
+pub(crate) fn side_of(operands: &str) -> &'static str {
+    let (lo, operands) = front_of(operands);
+    let (hi, at) = front_of(operands);
+    if is_in_box(&bounds_of(lo, hi), &coord_in(at)) {
+        "inside"
+    } else {
+        "outside"
+    }
 }

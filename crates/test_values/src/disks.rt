@@ -1,58 +1,21 @@
 //! Disks.
 
-use crate::objects::{front_of, number_in};
+use crate::answers::{answer_of, push_answer, push_answered};
 use crate::streams::push_faults;
-use afl_outside::{DeviceCall, Disk, Failed, MemDisk};
+use crate::words::{front_of, number_in};
+use afl_outside::{DeviceCall, Disk, MemDisk};
 use cell_values::Memory;
 use std::alloc::Global;
 use test_kit::{push_count, push_given, push_text, push_word, push_words};
-
-fn push_done(out: &mut String, done: Result<(), Failed>) -> Result<(), Memory> {
-    push_word(out, if done.is_ok() { "done" } else { "failed" })
-}
-
-/// Adds how many bytes a read gives, and the piece that it was read into, which has eight bytes at most.
-fn push_read<D: Disk>(out: &mut String, disk: &mut D, at: u64, count: u64) -> Result<(), Memory> {
-    let mut piece = [0u8; 8];
-    let count = (count as usize).min(8);
-    match disk.read_at(at, &mut piece[..count]) {
-        Ok(given) => {
-            write!(out, "{given} of ")?;
-            push_text(out, &piece[..count])
-        }
-        Err(Failed) => push_word(out, "failed"),
-    }
-}
-
-/// Adds what a disk answers to a call.
-pub(crate) fn push_answer<D: Disk>(
-    out: &mut String,
-    disk: &mut D,
-    call: &str,
-) -> Result<(), Memory> {
-    let (word, operands) = front_of(call);
-    let (at, operand) = front_of(operands);
-    match word {
-        "sync" => push_done(out, disk.sync()),
-        "write" => push_done(out, disk.write_at(number_in(at), operand.as_bytes())),
-        "read" => push_read(out, disk, number_in(at), number_in(operand)),
-        _ => match disk.len() {
-            Ok(length) => push_count(out, length),
-            Err(Failed) => push_word(out, "failed"),
-        },
-    }
-}
 
 /// Adds what a disk answers to calls.
 pub(crate) fn push_answers<D: Disk>(
     out: &mut String,
     disk: &mut D,
-    calls: &[&str],
+    calls: &str,
 ) -> Result<(), Memory> {
-    for call in calls {
-        push_words(out, &[call.trim(), ": "])?;
-        push_answer(out, disk, call)?;
-        push_word(out, "\n")?;
+    for call in calls.split_terminator('|') {
+        push_answered(out, call, answer_of(disk, call))?;
     }
     Ok(())
 }
@@ -82,12 +45,16 @@ fn push_image(out: &mut String, disk: &MemDisk, operands: &str) -> Result<(), Me
 fn push_recorded(out: &mut String, call: &DeviceCall) -> Result<(), Memory> {
     match call {
         DeviceCall::Length => push_word(out, "length"),
-        DeviceCall::Read { at, length } => Ok(write!(out, "read {at} {length}")?),
+        DeviceCall::Read { at, length } => {
+            let at = push_word(out, "read ").and(push_count(out, *at));
+            at.and(push_word(out, " ")).and(push_count(out, *length))
+        }
         DeviceCall::Sync { done: true } => push_word(out, "sync"),
         DeviceCall::Sync { done: false } => push_word(out, "sync that failed"),
         DeviceCall::Write { at, bytes } => {
-            write!(out, "write {at} ")?;
-            push_text(out, bytes.as_slice())
+            let at = push_word(out, "write ").and(push_count(out, *at));
+            at.and(push_word(out, " "))
+                .and(push_text(out, bytes.as_slice()))
         }
     }
 }
@@ -96,9 +63,8 @@ fn push_recorded(out: &mut String, call: &DeviceCall) -> Result<(), Memory> {
 fn push_calls(out: &mut String, disk: &MemDisk) -> Result<(), Memory> {
     let mut comma = "";
     for call in disk.calls() {
-        push_word(out, comma)?;
         let copy = call.copy()?;
-        let told = push_recorded(out, &copy);
+        let told = push_word(out, comma).and(push_recorded(out, &copy));
         drop(copy);
         told?;
         comma = ", ";
@@ -106,21 +72,22 @@ fn push_calls(out: &mut String, disk: &MemDisk) -> Result<(), Memory> {
     Ok(())
 }
 
+/// Adds a line with a call of a disk in memory and its answer: the calls that it has recorded, an image, or what any disk answers.
+fn push_disk_call(out: &mut String, disk: &mut MemDisk, call: &str) -> Result<(), Memory> {
+    let named = push_words(out, &[call.trim(), ": "]);
+    let (word, operands) = front_of(call);
+    let told = match word {
+        "calls" => push_calls(out, disk),
+        "image" => push_image(out, disk, operands),
+        _ => push_answer(out, answer_of(disk, call)),
+    };
+    named.and(told).and(push_word(out, "\n"))
+}
+
 /// Adds what a disk in memory answers to calls, and what it has recorded.
-pub(crate) fn push_disk(
-    out: &mut String,
-    disk: &mut MemDisk,
-    calls: &[&str],
-) -> Result<(), Memory> {
-    for call in calls {
-        push_words(out, &[call.trim(), ": "])?;
-        let (word, operands) = front_of(call);
-        match word {
-            "calls" => push_calls(out, disk)?,
-            "image" => push_image(out, disk, operands)?,
-            _ => push_answer(out, disk, call)?,
-        }
-        push_word(out, "\n")?;
+pub(crate) fn push_disk(out: &mut String, disk: &mut MemDisk, calls: &str) -> Result<(), Memory> {
+    for call in calls.split_terminator('|') {
+        push_disk_call(out, disk, call)?;
     }
     push_faults(out, disk.faults(), disk.wants())
 }

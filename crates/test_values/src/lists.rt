@@ -1,5 +1,6 @@
 //! A list, its calls, and what was taken from it.
 
+use crate::words::front_of;
 use cell_values::{Bytes, Memory};
 use std::alloc::Global;
 use std::cmp::Ordering;
@@ -29,23 +30,21 @@ impl Lists {
         }
     }
 
-    /// Does a call without operands, and adds the item that it gives, if it gives one.
-    fn call_plain(&mut self, out: &mut String, word: &str) -> Result<(), Memory> {
+    /// Does a call with a place or a length, and perhaps a byte, and adds the item that it gives, if it gives one.
+    fn call_at(&mut self, out: &mut String, word: &str, at: usize, byte: u8) -> Result<(), Memory> {
         match word {
-            "append" => self.list.append(self.taken.copy()?)?,
-            "clear" => self.list.clear(),
-            "pop" => push_item(out, self.list.pop())?,
-            "copy" => self.taken = self.list.copy()?,
-            _ => self.taken = self.list.take(),
-        }
-        Ok(())
-    }
-
-    /// Does a call with a place or a length, and adds the item that it gives, if it gives one.
-    fn call_at(&mut self, out: &mut String, word: &str, at: usize) -> Result<(), Memory> {
-        match word {
+            "get" => return push_item(out, self.list.get(at).copied()),
             "begin" => self.list = Bytes::with_capacity(self.taken.allocator(), at.min(1024))?,
-            "get" => push_item(out, self.list.get(at).copied())?,
+            "insert" => {
+                if at <= self.list.len() {
+                    return self.list.insert(at, byte);
+                }
+            }
+            "set" => {
+                if at < self.list.len() {
+                    self.list.set(at, byte);
+                }
+            }
             "remove" => {
                 if at < self.list.len() {
                     let _byte = self.list.remove(at);
@@ -56,57 +55,48 @@ impl Lists {
         Ok(())
     }
 
-    /// Does a call with a place and a byte.
-    fn change_at(&mut self, word: &str, at: usize, byte: u8) -> Result<(), Memory> {
-        if word == "insert" {
-            if at <= self.list.len() {
-                self.list.insert(at, byte)?;
-            }
-        } else if at < self.list.len() {
-            self.list.set(at, byte);
+    /// Does a call, and adds the item that it gives, if it gives one.
+    fn call(&mut self, out: &mut String, call: &str) -> Result<(), Memory> {
+        let (word, operands) = front_of(call);
+        let (operand, byte) = front_of(operands);
+        match word {
+            "append" => return self.list.append(self.taken.copy()?),
+            "extend" => return self.list.extend(operand.as_bytes()),
+            "push" => return self.list.push(byte_of(operand)),
+            "pop" => return push_item(out, self.list.pop()),
+            "clear" => self.list.clear(),
+            "copy" => self.taken = self.list.copy()?,
+            "take" => self.taken = self.list.take(),
+            word => return self.call_at(out, word, place_in(operand), byte_of(byte)),
         }
         Ok(())
     }
 
-    /// Does a call, and adds the item that it gives, if it gives one.
-    fn call(&mut self, out: &mut String, words: &[&str]) -> Result<(), Memory> {
-        match words {
-            [word] => self.call_plain(out, word),
-            ["extend", bytes] => self.list.extend(bytes.as_bytes()),
-            ["push", byte] => self.list.push(byte_of(byte)),
-            [word, at] => self.call_at(out, word, place_in(at)),
-            [word, at, byte] => self.change_at(word, place_in(at), byte_of(byte)),
-            _ => Ok(()),
-        }
-    }
-
     /// Does a call, and adds what it gives, the list that it leaves with its length and its largest byte, and how that
     /// stands to what was taken.
-    pub(crate) fn push_call(&mut self, out: &mut String, words: &[&str]) -> Result<(), Memory> {
-        self.call(out, words)?;
+    pub(crate) fn push_call(&mut self, out: &mut String, call: &str) -> Result<(), Memory> {
+        self.call(out, call)?;
         let list = self.list.as_slice();
-        push_quoted(out, list)?;
-        push_word(out, " of ")?;
-        push_count(out, list.len() as u64)?;
+        let shown = push_quoted(out, list);
+        let of = push_word(out, " of ");
+        let counted = push_count(out, list.len() as u64);
+        shown.and(of).and(counted)?;
         if let Some(most) = list.iter().copied().max() {
-            push_word(out, ", largest ")?;
-            push_text(out, &[most])?;
+            push_word(out, ", largest ").and(push_text(out, &[most]))?;
         }
         let standing = match self.list.cmp(&self.taken) {
             Ordering::Less => ", less than ",
             Ordering::Equal => ", equal to ",
             Ordering::Greater => ", more than ",
         };
-        push_word(out, standing)?;
-        push_quoted(out, self.taken.as_slice())
+        push_word(out, standing).and(push_quoted(out, self.taken.as_slice()))
     }
 }
 
 /// Adds an item of a list.
 fn push_item(out: &mut String, item: Option<u8>) -> Result<(), Memory> {
     match item {
-        Some(byte) => push_text(out, &[byte])?,
-        None => push_word(out, "nothing")?,
+        Some(byte) => push_text(out, &[byte]).and(push_word(out, " from ")),
+        None => push_word(out, "nothing from "),
     }
-    push_word(out, " from ")
 }

@@ -5,6 +5,7 @@
 #![tactic(auto)]
 
 mod aggregates;
+mod answers;
 mod calls;
 mod coordinates;
 mod disks;
@@ -17,12 +18,13 @@ mod shelves;
 mod show;
 mod streams;
 mod values;
+mod words;
 
 use afl_host::HostShelf;
 use afl_outside::{Gate, OpenGate, Point, Shelf};
 use cell_values::Memory;
 use lists::Lists;
-use objects::push_object_line;
+use objects::push_object;
 use std::{fs, io};
 use test_kit::{begin_answer, input};
 use values::push_call_line;
@@ -46,6 +48,23 @@ fn table_of(title: &str) -> Table {
     }
 }
 
+/// Adds a title, or a line of a table with its answer.
+fn push_line<S: Shelf>(
+    out: &mut String,
+    lists: &mut Lists,
+    shelf: &mut S,
+    table: Table,
+    line: &str,
+) -> Result<(), Memory> {
+    if !begin_answer(out, line)? {
+        return Ok(());
+    }
+    match table {
+        Table::Objects => push_object(out, shelf, line),
+        table => push_call_line(out, lists, table, line),
+    }
+}
+
 /// Adds the title of each table, and its lines with their answers.
 fn push_tables<S: Shelf>(
     out: &mut String,
@@ -55,14 +74,10 @@ fn push_tables<S: Shelf>(
 ) -> Result<(), Memory> {
     let mut table = Table::Values;
     for line in text.lines() {
-        if begin_answer(out, line)? {
-            match table {
-                Table::Objects => push_object_line(out, shelf, line)?,
-                table => push_call_line(out, lists, table, line)?,
-            }
-        } else if line.starts_with("### ") {
+        if line.starts_with("### ") {
             table = table_of(line);
         }
+        push_line(out, lists, shelf, table, line)?;
     }
     Ok(())
 }
@@ -76,9 +91,8 @@ fn main(rt: HostRuntime) -> io::Result<()> {
     let told = push_tables(&mut out, &mut lists, &mut shelf, text.as_str());
     drop(lists);
     drop(shelf);
-    for name in ["said", "page"] {
-        let _ = fs::remove_file(&rt, name);
-    }
+    let _ = fs::remove_file(&rt, "said");
+    let _ = fs::remove_file(&rt, "page");
     match told {
         Ok(()) => print!(rt; "{out}"),
         Err(Memory) => println!(rt; "no memory"),

@@ -7,30 +7,10 @@ use crate::disks::{push_answers, push_disk};
 use crate::real::push_real;
 use crate::shelves::push_shelf;
 use crate::streams::{push_reads, push_sink, push_sure_sink};
+use crate::words::{front_of, number_in, parts_of, push_numbers};
 use afl_outside::{MemDisk, MemSink, MemSource, Shelf, SureDisk, SureSink, SureSource, has_risen};
 use cell_values::{Bytes, List, Memory};
-use std::alloc::Global;
 use test_kit::push_word;
-
-/// The number of a word; 0 where it is none.
-pub(crate) fn number_in(word: &str) -> u64 {
-    word.parse::<u64>().unwrap_or(0)
-}
-
-/// The first word of a text, and what stands behind it.
-pub(crate) fn front_of(text: &str) -> (&str, &str) {
-    let text = text.trim();
-    text.split_once(' ').unwrap_or((text, ""))
-}
-
-/// The numbers of the calls that are to fail.
-pub(crate) fn numbers_in(alloc: Global, words: &str) -> Result<List<u64>, Memory> {
-    let mut numbers = List::new(alloc);
-    for word in words.split_whitespace() {
-        numbers.push(number_in(word))?;
-    }
-    Ok(numbers)
-}
 
 /// Adds whether a count of failed calls has risen.
 fn push_risen(out: &mut String, counts: &str) -> Result<(), Memory> {
@@ -42,7 +22,7 @@ fn push_risen(out: &mut String, counts: &str) -> Result<(), Memory> {
 }
 
 /// Adds what an object that never fails answers to calls.
-fn push_sure(out: &mut String, object: &str, calls: &[&str]) -> Result<(), Memory> {
+fn push_sure(out: &mut String, object: &str, calls: &str) -> Result<(), Memory> {
     let (word, content) = front_of(object);
     let content = Bytes::from_slice(*out.allocator(), content.as_bytes())?;
     match word {
@@ -58,7 +38,7 @@ fn push_holding(
     object: &str,
     content: Bytes,
     fails: List<u64>,
-    calls: &[&str],
+    calls: &str,
 ) -> Result<(), Memory> {
     match object {
         "source" => push_reads(out, &mut MemSource::new(content, fails), calls),
@@ -68,25 +48,27 @@ fn push_holding(
 }
 
 /// Adds what an object that holds something, and fails at some calls, answers to calls.
-fn push_failing(out: &mut String, object: &str, held: &str, calls: &[&str]) -> Result<(), Memory> {
+fn push_failing(out: &mut String, object: &str, held: &str, calls: &str) -> Result<(), Memory> {
     let (content, fails) = front_of(held);
     let content = Bytes::from_slice(*out.allocator(), content.as_bytes())?;
-    match numbers_in(*out.allocator(), fails) {
-        Ok(fails) => push_holding(out, object, content, fails, calls),
+    let mut numbers = List::new(content.allocator());
+    match push_numbers(&mut numbers, fails) {
+        Ok(()) => push_holding(out, object, content, numbers, calls),
         Err(Memory) => {
             drop(content);
+            drop(numbers);
             Err(Memory)
         }
     }
 }
 
-/// Adds what an object answers to calls.
-fn push_object<S: Shelf>(
+/// Adds the answer to a line.
+pub(crate) fn push_object<S: Shelf>(
     out: &mut String,
     shelf: &mut S,
-    object: &str,
-    calls: &[&str],
+    line: &str,
 ) -> Result<(), Memory> {
+    let (object, calls) = parts_of(line);
     let (word, held) = front_of(object);
     match word {
         "count" => push_risen(out, held),
@@ -95,19 +77,4 @@ fn push_object<S: Shelf>(
         "shelf" => push_shelf(out, held, calls),
         word => push_failing(out, word, held, calls),
     }
-}
-
-/// Adds the answer to a line.
-pub(crate) fn push_object_line<S: Shelf>(
-    out: &mut String,
-    shelf: &mut S,
-    line: &str,
-) -> Result<(), Memory> {
-    let parts: Vec<&str> = line.split('|').collect(*out.allocator())?;
-    let told = match parts.as_slice() {
-        [object, calls @ ..] => push_object(out, shelf, object, calls),
-        [] => Ok(()),
-    };
-    drop(parts);
-    told
 }

@@ -58,8 +58,8 @@ fn first() -> ChunkAt
 }
 
 /// Adds the cells of these words.
-fn push_all(chunk: &mut Chunk, words: &[&str]) -> Result<(), Memory> {
-    for word in words {
+fn push_all(chunk: &mut Chunk, words: &str) -> Result<(), Memory> {
+    for word in words.split_whitespace() {
         let (place, held) = place_in(word);
         chunk.positions.push(place.unsigned_abs())?;
         let cell = cell_of(chunk.positions.allocator(), &[], held)?;
@@ -69,7 +69,7 @@ fn push_all(chunk: &mut Chunk, words: &[&str]) -> Result<(), Memory> {
 }
 
 /// A chunk with the cells of these words.
-pub(crate) fn chunk_in(alloc: Global, at: ChunkAt, words: &[&str]) -> Result<Chunk, Memory> {
+pub(crate) fn chunk_in(alloc: Global, at: ChunkAt, words: &str) -> Result<Chunk, Memory> {
     let mut chunk = Chunk {
         at,
         positions: List::new(alloc),
@@ -92,12 +92,11 @@ fn push_payload(out: &mut String, chunk: &Chunk) -> Result<(), Memory> {
     let payload = payload?;
     let told = push_hex(out, payload.as_slice());
     drop(payload);
-    told?;
-    push_word(out, "\n")
+    told.and(push_word(out, "\n"))
 }
 
 /// Adds the payload of a chunk with these cells.
-pub(crate) fn push_spelled(out: &mut String, words: &[&str]) -> Result<(), Memory> {
+pub(crate) fn push_spelled(out: &mut String, words: &str) -> Result<(), Memory> {
     let chunk = chunk_in(*out.allocator(), first(), words)?;
     let told = push_payload(out, &chunk);
     drop(chunk);

@@ -14,7 +14,9 @@ use array_geom::{
 };
 use cell_values::{Bounds, ChunkAt, Coord, Dimension, List, Memory, Name, Schema, coord_of};
 use std::alloc::Global;
-use test_kit::{name_of, one_more, push_coord, push_number, push_word, push_words, truth_word};
+use test_kit::{
+    name_of, one_more, push_coord, push_count, push_number, push_word, push_words, truth_word,
+};
 
 fn dimension(name: Name, lo: i64, hi: i64, chunk: u64) -> Dimension
     ensures { result ≡ dimension name lo hi chunk 1 }
@@ -63,10 +65,10 @@ fn at(x: i64, y: i64) -> Coord
 }
 
 fn push_found(out: &mut String, found: &ChunkAt, number: u64, back: &Coord) -> Result<(), Memory> {
-    push_number(out, found)?;
-    write!(out, " place {number} ")?;
-    push_coord(out, back)?;
-    push_word(out, "\n")
+    let found = push_number(out, found);
+    let place = push_word(out, " place ").and(push_count(out, number));
+    let back = push_word(out, " ").and(push_coord(out, back));
+    found.and(place).and(back).and(push_word(out, "\n"))
 }
 
 /// Adds the chunk of a coordinate, its place in the frame, and the coordinate of that place.
@@ -89,9 +91,8 @@ fn push_frame_in(out: &mut String, schema: &Schema) -> Result<(), Memory>
     let chunk = numbers(1, 1);
     let margins = numbers(1, 1);
     let core = core_box(schema, &chunk);
-    push_box(out, "core", &core)?;
     let frame = frame(schema, &margins, &chunk);
-    push_box(out, "frame", &frame)
+    push_box(out, "core", &core).and(push_box(out, "frame", &frame))
 }
 
 fn push_numbers(out: &mut String, numbers: &[ChunkAt]) -> Result<(), Memory> {
@@ -132,13 +133,14 @@ fn push_places(out: &mut String, word: &str) -> Result<(), Memory> {
 fn push_tests(out: &mut String, area: &Bounds, moved: &Bounds) -> Result<(), Memory> {
     let last = truth_word(area.holds(&at(3, 2)));
     let behind = truth_word(area.holds(&at(3, 3)));
-    push_words(out, &[last, " ", behind, "\n"])?;
-    push_box(out, "moved", moved)?;
+    let tested = push_words(out, &[last, " ", behind, "\n"]);
+    let moved = push_box(out, "moved", moved);
     let other = Bounds {
         lo: at(0, 1),
         hi: at(2, 9),
     };
-    push_box(out, "shared", &area.meet(&other))
+    let shared = push_box(out, "shared", &area.meet(&other));
+    tested.and(moved).and(shared)
 }
 
 fn push_boxes(out: &mut String) -> Result<(), Memory> {
@@ -159,7 +161,7 @@ fn push_listed(out: &mut String, chunks: &[Chunk]) -> Result<(), Memory> {
 
 /// A copy of an array of one cell, at place 7 of the last chunk.
 fn copied_array(alloc: Global) -> Result<ChunkedArray, Memory> {
-    let chunk = chunk_in(alloc, numbers(1, 1), &["7:5"])?;
+    let chunk = chunk_in(alloc, numbers(1, 1), "7:5")?;
     let chunks = one_more(List::new(alloc), chunk)?;
     match schema(alloc) {
         Ok(schema) => {
@@ -186,8 +188,7 @@ fn push_changed(out: &mut String, changed: &Changed) -> Result<(), Memory> {
     let whole = push_words(out, &["whole ", truth_word(copy.whole), "\n"]);
     let listed = push_listed(out, copy.chunks.as_slice());
     drop(copy);
-    whole?;
-    listed
+    whole.and(listed)
 }
 
 /// Adds the chunks of copies of an array and of a change.
@@ -201,19 +202,16 @@ fn push_copies(out: &mut String) -> Result<(), Memory> {
     };
     let of_change = push_changed(out, &changed);
     drop(changed);
-    of_array?;
-    of_change
+    of_array.and(of_change)
 }
 
 /// Adds what a call on chunks and their places gives.
-pub(crate) fn push_chunk_call(out: &mut String, words: &[&str]) -> Result<(), Memory> {
-    match words {
-        ["spell", cells @ ..] => push_spelled(out, cells),
-        ["boxes"] => push_boxes(out),
-        ["copies"] => push_copies(out),
-        ["read"] => push_read(out, ""),
-        [word] => push_places(out, word),
-        [_, digits] => push_read(out, digits),
-        _ => Ok(()),
+pub(crate) fn push_chunk_call(out: &mut String, word: &str, operands: &str) -> Result<(), Memory> {
+    match word {
+        "spell" => push_spelled(out, operands),
+        "read" => push_read(out, operands),
+        "boxes" => push_boxes(out),
+        "copies" => push_copies(out),
+        word => push_places(out, word),
     }
 }

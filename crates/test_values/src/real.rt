@@ -4,8 +4,8 @@
 //! a `|`. `shelf` is answered by how many of them could not be opened.
 
 use crate::disks::push_answers;
-use crate::objects::front_of;
 use crate::streams::{push_faults, push_reads, push_writes};
+use crate::words::front_of;
 use afl_outside::{Disk, Failed, Shelf};
 use cell_values::Memory;
 use test_kit::push_word;
@@ -14,7 +14,7 @@ fn push_source<S: Shelf>(
     out: &mut String,
     shelf: &mut S,
     name: &str,
-    calls: &[&str],
+    calls: &str,
 ) -> Result<(), Memory> {
     match shelf.script(name) {
         Ok(mut source) => {
@@ -30,7 +30,7 @@ fn push_sink<S: Shelf>(
     out: &mut String,
     shelf: &mut S,
     name: &str,
-    calls: &[&str],
+    calls: &str,
 ) -> Result<(), Memory> {
     match shelf.reply(name) {
         Ok(mut sink) => {
@@ -46,15 +46,14 @@ fn push_disk<S: Shelf>(
     out: &mut String,
     shelf: &mut S,
     name: &str,
-    calls: &[&str],
+    calls: &str,
 ) -> Result<(), Memory> {
     match shelf.device(name) {
         Ok(mut disk) => {
             let told = push_answers(out, &mut disk, calls);
             let (faults, wants) = (disk.faults(), disk.wants());
             drop(disk);
-            told?;
-            push_faults(out, faults, wants)
+            told.and(push_faults(out, faults, wants))
         }
         Err(Failed) => push_word(out, "failed\n"),
     }
@@ -65,7 +64,7 @@ pub(crate) fn push_real<S: Shelf>(
     out: &mut String,
     shelf: &mut S,
     object: &str,
-    calls: &[&str],
+    calls: &str,
 ) -> Result<(), Memory> {
     let (word, name) = front_of(object);
     match word {

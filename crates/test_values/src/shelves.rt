@@ -1,14 +1,20 @@
 //! Shelves.
 
-use crate::disks::push_answer;
-use crate::objects::{front_of, numbers_in};
-use crate::streams::{push_faults, push_held, push_read, push_write};
+use crate::answers::{answer_of, push_next, read_of, write_of};
+use crate::streams::{push_faults, push_held};
+use crate::words::{front_of, push_numbers};
 use afl_outside::{Disk, Failed, MemFile, MemShelf, MemSink, Shelf, Source};
 use cell_values::{List, Memory};
-use std::alloc::Global;
 use test_kit::{push_word, push_words};
 
-/// Adds a copy of a file with a name, a content, and the number of the call that is to fail.
+/// Gives a file a name, a content, and the number of the call that is to fail.
+fn fill(file: &mut MemFile, name: &str, content: &str, fail: u64) -> Result<(), Memory> {
+    let named = file.name.extend(name.as_bytes());
+    let filled = file.content.extend(content.as_bytes());
+    named.and(filled).and(file.fails.push(fail))
+}
+
+/// Adds a copy of such a file.
 fn push_file(
     files: &mut List<MemFile>,
     name: &str,
@@ -16,50 +22,47 @@ fn push_file(
     fail: u64,
 ) -> Result<(), Memory> {
     let alloc = files.allocator();
-    let file = MemFile {
-        name: List::from_slice(alloc, name.as_bytes())?,
-        content: List::from_slice(alloc, content.as_bytes())?,
-        fails: List::from_slice(alloc, &[fail])?,
+    let mut file = MemFile {
+        name: List::new(alloc),
+        content: List::new(alloc),
+        fails: List::new(alloc),
     };
-    let copy = file.copy();
-    drop(file);
-    files.push(copy?)
-}
-
-/// Such files.
-fn files_of(alloc: Global, files: &[(&str, &str, u64)]) -> Result<List<MemFile>, Memory> {
-    let mut list = List::new(alloc);
-    for (name, content, fail) in files {
-        push_file(&mut list, name, content, *fail)?;
+    match fill(&mut file, name, content, fail) {
+        Ok(()) => {
+            let copy = file.copy();
+            drop(file);
+            files.push(copy?)
+        }
+        Err(Memory) => {
+            drop(file);
+            Err(Memory)
+        }
     }
-    Ok(list)
 }
 
 fn push_reads<S: Source>(out: &mut String, source: &mut S, counts: &str) -> Result<(), Memory> {
     push_word(out, "opened")?;
     for count in counts.split_whitespace() {
-        push_word(out, ", ")?;
-        push_read(out, source, count)?;
+        push_next(out, read_of(source, count))?;
     }
-    Ok(())
+    push_word(out, "\n")
 }
 
 fn push_writes(out: &mut String, sink: &mut MemSink, pieces: &str) -> Result<(), Memory> {
-    push_word(out, "opened, ")?;
+    push_word(out, "opened")?;
     for piece in pieces.split_whitespace() {
-        push_write(out, sink, piece)?;
-        push_word(out, ", ")?;
+        push_next(out, write_of(sink, piece))?;
     }
+    push_word(out, ", ")?;
     push_held(out, sink.bytes())
 }
 
 fn push_answers<D: Disk>(out: &mut String, disk: &mut D, calls: &str) -> Result<(), Memory> {
     push_word(out, "opened")?;
     for call in calls.split_whitespace() {
-        push_word(out, ", ")?;
-        push_answer(out, disk, call)?;
+        push_next(out, answer_of(disk, call))?;
     }
-    Ok(())
+    push_word(out, "\n")
 }
 
 fn push_script(
@@ -74,7 +77,7 @@ fn push_script(
             drop(source);
             told
         }
-        Err(Failed) => push_word(out, "failed"),
+        Err(Failed) => push_word(out, "failed\n"),
     }
 }
 
@@ -90,7 +93,7 @@ fn push_reply(
             drop(sink);
             told
         }
-        Err(Failed) => push_word(out, "failed"),
+        Err(Failed) => push_word(out, "failed\n"),
     }
 }
 
@@ -106,35 +109,64 @@ fn push_device(
             drop(device);
             told
         }
-        Err(Failed) => push_word(out, "failed"),
+        Err(Failed) => push_word(out, "failed\n"),
     }
 }
 
-/// Opens files as the words of calls say, and adds what they answer: reads of these lengths, pieces that are written, or calls
-/// of a disk.
-fn push_lines(out: &mut String, shelf: &mut MemShelf, calls: &[&str]) -> Result<(), Memory> {
-    for call in calls {
-        push_words(out, &[call.trim(), ": "])?;
-        let (word, operands) = front_of(call);
-        let (name, operands) = front_of(operands);
-        match word {
-            "script" => push_script(out, shelf, name, operands)?,
-            "reply" => push_reply(out, shelf, name, operands)?,
-            _ => push_device(out, shelf, name, operands)?,
-        }
-        push_word(out, "\n")?;
+/// Opens a file as a call says, and adds what it answers: to reads of these lengths, to pieces that are written, or to calls of
+/// a disk.
+fn push_opened(out: &mut String, shelf: &mut MemShelf, call: &str) -> Result<(), Memory> {
+    push_words(out, &[call.trim(), ": "])?;
+    let (word, operands) = front_of(call);
+    let (name, operands) = front_of(operands);
+    match word {
+        "script" => push_script(out, shelf, name, operands),
+        "reply" => push_reply(out, shelf, name, operands),
+        _ => push_device(out, shelf, name, operands),
+    }
+}
+
+/// Adds what the files that calls open answer.
+fn push_lines(out: &mut String, shelf: &mut MemShelf, calls: &str) -> Result<(), Memory> {
+    for call in calls.split_terminator('|') {
+        push_opened(out, shelf, call)?;
     }
     push_faults(out, shelf.faults(), shelf.wants())
 }
 
+/// Adds the files and replies of a shelf, and the numbers of its calls that are to fail.
+fn push_files(
+    files: &mut List<MemFile>,
+    replies: &mut List<MemFile>,
+    fails: &mut List<u64>,
+    words: &str,
+) -> Result<(), Memory> {
+    let page = push_file(files, "db", "page", 1);
+    let script = push_file(files, "s", "a;", 0);
+    let reply = push_file(replies, "s.out", "old:", 1);
+    let numbers = push_numbers(fails, words);
+    page.and(script).and(reply).and(numbers)
+}
+
 /// Adds what a shelf answers to calls: with the file `db` of the bytes `page`, whose call 1 fails, `s` with `a;`, whose call 0
 /// fails, and the reply `s.out` with `old:`, whose call 1 fails.
-pub(crate) fn push_shelf(out: &mut String, fails: &str, calls: &[&str]) -> Result<(), Memory> {
+pub(crate) fn push_shelf(out: &mut String, fails: &str, calls: &str) -> Result<(), Memory> {
     let alloc = *out.allocator();
-    let files = files_of(alloc, &[("db", "page", 1), ("s", "a;", 0)])?;
-    let replies = files_of(alloc, &[("s.out", "old:", 1)])?;
-    let mut shelf = MemShelf::new(files, replies, numbers_in(alloc, fails)?);
-    let told = push_lines(out, &mut shelf, calls);
-    drop(shelf);
-    told
+    let mut files = List::new(alloc);
+    let mut replies = List::new(alloc);
+    let mut numbers = List::new(alloc);
+    match push_files(&mut files, &mut replies, &mut numbers, fails) {
+        Ok(()) => {
+            let mut shelf = MemShelf::new(files, replies, numbers);
+            let told = push_lines(out, &mut shelf, calls);
+            drop(shelf);
+            told
+        }
+        Err(Memory) => {
+            drop(files);
+            drop(replies);
+            drop(numbers);
+            Err(Memory)
+        }
+    }
 }

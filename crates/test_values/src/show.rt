@@ -14,10 +14,15 @@ pub(crate) fn push_chunk(out: &mut String, chunk: &Chunk) -> Result<(), Memory> 
 }
 
 /// Adds the corners of a box.
+pub(crate) fn push_corners(out: &mut String, area: &Bounds) -> Result<(), Memory> {
+    let lo = push_coord(out, &area.lo);
+    let to = push_word(out, " to ");
+    lo.and(to).and(push_coord(out, &area.hi))
+}
+
+/// Adds a line with the corners of a box.
 pub(crate) fn push_box(out: &mut String, title: &str, area: &Bounds) -> Result<(), Memory> {
-    push_words(out, &[title, " "])?;
-    push_coord(out, &area.lo)?;
-    push_word(out, " to ")?;
-    push_coord(out, &area.hi)?;
-    push_word(out, "\n")
+    let titled = push_words(out, &[title, " "]);
+    let told = push_corners(out, area);
+    titled.and(told).and(push_word(out, "\n"))
 }

@@ -7,12 +7,13 @@
 use crate::Table;
 use crate::aggregates::push_aggregate;
 use crate::calls::{push_one, push_two};
-use crate::coordinates::{push_bounds, push_box, push_broken, push_order, push_row};
+use crate::coordinates::{order_of, push_bounds, push_broken, push_row, sameness_of, side_of};
 use crate::lists::Lists;
 use crate::places::push_chunk_call;
-use cell_values::{Bytes, Code, Memory, Name, same_place};
+use crate::words::front_of;
+use cell_values::{Bytes, Code, Memory, Name};
 use std::str::from_utf8;
-use test_kit::{coord_in, push_text, push_word, text_of, words_of};
+use test_kit::{push_count, push_text, push_word, text_of};
 
 /// Adds the name that a text is.
 fn push_name(out: &mut String, text: &str) -> Result<(), Memory> {
@@ -26,73 +27,48 @@ fn push_name(out: &mut String, text: &str) -> Result<(), Memory> {
     }
 }
 
-/// Adds what a call with one operand gives.
-fn push_with_one(out: &mut String, word: &str, operand: &str) -> Result<(), Memory> {
+/// Adds the code of a number.
+fn push_code(out: &mut String, number: &str) -> Result<(), Memory> {
+    match Code::new(number.parse::<u8>().unwrap_or(0)) {
+        Some(code) => push_word(out, "code ").and(push_count(out, u64::from(code.number()))),
+        None => push_word(out, "no code"),
+    }
+}
+
+/// Adds the answer to a call, whose first word is its name or its first operand.
+fn push_call(out: &mut String, word: &str, operands: &str) -> Result<(), Memory> {
     match word {
-        "name" => push_name(out, operand),
-        "code" => match Code::new(operand.parse::<u8>().unwrap_or(0)) {
-            Some(code) => Ok(write!(out, "code {}", code.number())?),
-            None => push_word(out, "no code"),
-        },
-        op => push_one(out, op, operand),
+        "name" => push_name(out, operands),
+        "code" => push_code(out, operands),
+        "row" => push_row(out, operands),
+        "bounds" => push_bounds(out, operands),
+        "broken" => push_broken(out, operands),
+        "order" => push_word(out, order_of(operands)),
+        "same" => push_word(out, sameness_of(operands)),
+        "box" => push_word(out, side_of(operands)),
+        "-" => push_one(out, word, operands),
+        "not" => push_one(out, word, operands),
+        word => push_two(out, word, operands),
     }
-}
-
-/// Adds what a call with two operands gives, whose word stands before them or between.
-fn push_with_two(out: &mut String, word: &str, a: &str, b: &str) -> Result<(), Memory> {
-    match word {
-        "bounds" => push_bounds(out, a, b),
-        "broken" => push_broken(out, a, b),
-        "order" => push_order(out, a, b),
-        "same" => {
-            let is_same = same_place(&coord_in(a), &coord_in(b));
-            push_word(out, if is_same { "the same" } else { "another" })
-        }
-        one => push_two(out, one, a, b),
-    }
-}
-
-/// Adds the answer to a call.
-fn push_call(out: &mut String, words: &[&str]) -> Result<(), Memory> {
-    match words {
-        ["row", at, front @ .., last] => push_row(out, at, front, last),
-        [word] => push_with_one(out, word, ""),
-        [word, a] => push_with_one(out, word, a),
-        [word, a, b] => push_with_two(out, word, a, b),
-        [_, lo, hi, at] => push_box(out, lo, hi, at),
-        _ => Ok(()),
-    }
-}
-
-/// Adds the answer to the words of a line.
-fn push_answer(
-    out: &mut String,
-    lists: &mut Lists,
-    table: Table,
-    words: &[&str],
-) -> Result<(), Memory> {
-    match table {
-        Table::Chunks => return push_chunk_call(out, words),
-        Table::Aggregates => push_aggregate(out, words)?,
-        _ => match words {
-            ["list", call @ ..] => lists.push_call(out, call)?,
-            words => push_call(out, words)?,
-        },
-    }
-    push_word(out, "\n")
 }
 
 /// Adds the answer to a text.
-fn push_text_answer(
+fn push_answer(
     out: &mut String,
     lists: &mut Lists,
     table: Table,
     text: &str,
 ) -> Result<(), Memory> {
-    let words = words_of(*out.allocator(), text)?;
-    let told = push_answer(out, lists, table, words.as_slice());
-    drop(words);
-    told
+    let (word, operands) = front_of(text);
+    let told = match table {
+        Table::Chunks => return push_chunk_call(out, word, operands),
+        Table::Aggregates => push_aggregate(out, operands),
+        _ => match word {
+            "list" => lists.push_call(out, operands),
+            word => push_call(out, word, operands),
+        },
+    };
+    told.and(push_word(out, "\n"))
 }
 
 /// Adds the answer to a line of a table.
@@ -103,7 +79,7 @@ pub(crate) fn push_call_line(
     line: &str,
 ) -> Result<(), Memory> {
     let text = text_of(*out.allocator(), line.as_bytes())?;
-    let told = push_text_answer(out, lists, table, from_utf8(text.as_slice()).unwrap_or(""));
+    let told = push_answer(out, lists, table, from_utf8(text.as_slice()).unwrap_or(""));
     drop(text);
     told
 }

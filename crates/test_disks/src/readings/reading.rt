@@ -8,6 +8,7 @@ ghost use Rattle.store_state.specs.Calls.{IsLeafOf};
 ghost use Rattle.test_disks.specs.Cells.{IsRead, IsVersionIn};
 ghost use Rattle.test_disks.specs.Holds.{LeavesAll};
 
+use crate::stores::count_of;
 use afl_outside::Disk;
 use array_geom::{Chunk, ChunkedArray, margins_of};
 use array_store::Store;
@@ -19,11 +20,12 @@ use result_print::dcsv;
 use std::alloc::Global;
 use store_ledger::Pinned;
 use store_state::ReadFault;
+use test_kit::name_of;
 
 fn is_among(versions: &List<u32>, version: u32) -> bool
     ensures { result ≡ list_any (λ v. nat_eq v version) versions.now }
 {
-    versions.as_slice().iter().any(|number| *number == version)
+    versions.as_slice().contains(&version)
 }
 
 /// A version of an array under this name.
@@ -58,9 +60,13 @@ pub fn named_leaf(alloc: Global, names: &Names, word: &str) -> Option<Leaf>
     ensures leaf { IfSome result (IsLeafOf names.now) }
     ensures valid { IfSome result (λ leaf. IsValid leaf.schema) }
 {
-    let (name, version) = word.split_once('@')?;
-    let name = Name::new(Bytes::from_slice(alloc, name.as_bytes()).ok()?)?;
-    leaf_of(names, &name, version.parse::<u32>().unwrap_or(0))
+    let Some((name, version)) = word.split_once('@') else {
+        return None;
+    };
+    match name_of(alloc, name.as_bytes()) {
+        Ok(name) => leaf_of(names, &name, count_of(version)),
+        Err(Memory) => None,
+    }
 }
 
 /// The chunk at a place among those of a version; none past the last one.
@@ -89,19 +95,19 @@ fn chunk_at<D: Disk>(
     }
 }
 
-/// The rows of a chunk's core.
-fn rows_in(leaf: &Leaf, chunk: Chunk) -> Result<List<Row>, Memory>
+/// Adds the rows of a chunk's core.
+fn add_rows(rows: &mut List<Row>, leaf: &Leaf, chunk: Chunk) -> Result<(), Memory>
     requires valid { IsValid leaf.now.schema }
     requires read { IsRead leaf.now.schema chunk }
 {
     let mut chunks = leaf.schema.dimensions.another();
     chunks.push(chunk)?;
-    into_rows(ChunkedArray {
+    rows.append(into_rows(ChunkedArray {
         schema: leaf.schema.copy()?,
         margins: margins_of(&leaf.schema),
         chunks,
         broken: None,
-    })
+    })?)
 }
 
 /// Adds the rows of a chunk that was read, and tells whether there was one.
@@ -114,11 +120,8 @@ pub fn add_read(
     requires read { IfOk found (λ read. IfSome read (IsRead leaf.now.schema)) }
 {
     match found {
-        Ok(Some(chunk)) => match rows_in(leaf, chunk) {
-            Ok(more) => match rows.append(more) {
-                Ok(()) => Ok(true),
-                Err(Memory) => Err(ReadFault::Memory),
-            },
+        Ok(Some(chunk)) => match add_rows(rows, leaf, chunk) {
+            Ok(()) => Ok(true),
             Err(Memory) => Err(ReadFault::Memory),
         },
         Ok(None) => Ok(false),

@@ -5,7 +5,7 @@ use page_file::OpenCause;
 use result_print::{Refusal, refusal_line};
 use std::str::from_utf8;
 use store_state::ReadFault;
-use test_kit::push_word;
+use test_kit::{push_word, push_words};
 
 /// What a step is answered.
 pub enum Answer {
@@ -95,7 +95,7 @@ pub fn push_numbered(
 
 fn push_numbers(out: &mut String, numbers: &[u32]) -> Result<(), Memory> {
     for number in numbers {
-        write!(out, "{number} ")?;
+        push_numbered(out, "", u64::from(*number), " ")?;
     }
     push_word(out, "\n")
 }
@@ -153,7 +153,8 @@ impl Answer {
         match self {
             Answer::Made { name, version } => {
                 let name = from_utf8(name.as_slice()).unwrap_or("no text");
-                Ok(writeln!(out, "ok {name}@{version}")?)
+                push_words(out, &["ok ", name, "@"])?;
+                push_numbered(out, "", u64::from(*version), "\n")
             }
             Answer::Lines(lines) => {
                 push_word(out, from_utf8(lines.as_slice()).unwrap_or("no text\n"))
@@ -161,7 +162,8 @@ impl Answer {
             Answer::Numbers(numbers) => push_numbers(out, numbers.as_slice()),
             Answer::Refused(refusal) => push_refusal(out, refusal),
             Answer::Full { needed, free } => {
-                Ok(writeln!(out, "error: full: needs {needed} pages, {free} free")?)
+                push_numbered(out, "error: full: needs ", u64::from(*needed), " pages, ")?;
+                push_numbered(out, "", u64::from(*free), " free\n")
             }
             Answer::Unopened(cause) => Ok(writeln!(out, "error: {cause}")?),
             plain => plain.push_plain(out),

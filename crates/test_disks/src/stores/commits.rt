@@ -1,17 +1,14 @@
 //! Commits under a session's pin.
-ghost use Rattle.std.specs.Prelude.{◌≡◌, false, IfSome, IsTrue, Option};
+ghost use Rattle.std.specs.Prelude.{◌≡◌, false, IsTrue, Option};
 ghost use Rattle.array_geom.specs.declared.chunk.Changed.{Changed};
 ghost use Rattle.event_core.specs.Allowed.{is_pinned};
 ghost use Rattle.event_core.specs.History.{names_at};
-ghost use Rattle.plan_changes.specs.Typed.{IsTypedFor};
-ghost use Rattle.commit_pages.specs.Changes.{AreValid, ComesWith};
 ghost use Rattle.prepared_commits.specs.Prepared.{IsPreparedFor};
 ghost use Rattle.store_ledger.specs.Ledger.{history, is_noted, is_tried};
 ghost use Rattle.test_disks.specs.Holds.{IsHold, LeavesOthers, LeavesTried};
 ghost use Rattle.test_disks.specs.Offers.{IsOffer};
-ghost use Rattle.test_disks.specs.Quiet.{quiet_moment};
+ghost use Rattle.test_quiet.specs.Quiet.{quiet_moment};
 
-use crate::disks::QuietDisk;
 use crate::stores::answers::Answer;
 use crate::stores::changes::{Offer, offer_under};
 use crate::stores::holds::Hold;
@@ -24,6 +21,7 @@ use plan_changes::{Change, changed_name, has_its_names, newest_of};
 use prepared_commits::{PrepareFault, Prepared};
 use std::alloc::Global;
 use std::thread::Threads;
+use test_quiet::QuietDisk;
 
 /// What was committed: the newest version, where the change made one.
 fn done(store: &Store<QuietDisk>, made: Option<Name>) -> Answer {
@@ -58,33 +56,6 @@ fn answer_of(fault: PrepareFault) -> Answer {
     }
 }
 
-/// Commits a change under a session's pin. Over a quiet disk nothing is asked of what the database holds.
-fn committed(
-    alloc: Global,
-    store: &mut Store<QuietDisk>,
-    session: u32,
-    change: Change,
-    changed: Option<Changed>,
-    made: Option<Name>,
-) -> Answer
-    requires pinned { IsTrue (is_pinned session (history store.old.ledger)) }
-    requires tried { is_noted is_tried store.old.ledger session ≡ false }
-    requires typed { IsTypedFor (names_at store.old.ledger.base (history store.old.ledger)) change }
-    requires comes { ComesWith change changed }
-    requires valid { IfSome changed AreValid }
-    ensures tried { LeavesTried session store.old.ledger store.new.ledger }
-    ensures others { LeavesOthers session store.old.ledger store.new.ledger }
-{
-    has_its_names(&change);
-    match store.prepare(alloc, session, change, changed) {
-        Ok(prepared) => sealed(store, prepared, made),
-        Err(fault) => {
-            drop(made);
-            answer_of(fault)
-        }
-    }
-}
-
 /// The name of the array of which a change makes a version.
 fn made_by(change: &Change, changed: &Option<Changed>) -> Option<Name> {
     match changed {
@@ -93,13 +64,8 @@ fn made_by(change: &Change, changed: &Option<Changed>) -> Option<Name> {
     }
 }
 
-/// Commits what is offered under a session's pin.
-fn committed_offer(
-    alloc: Global,
-    store: &mut Store<QuietDisk>,
-    session: u32,
-    offer: Offer,
-) -> Answer
+/// Commits what is offered under a session's pin. Over a quiet disk nothing is asked of what the database holds.
+fn committed(alloc: Global, store: &mut Store<QuietDisk>, session: u32, offer: Offer) -> Answer
     requires pinned { IsTrue (is_pinned session (history store.old.ledger)) }
     requires tried { is_noted is_tried store.old.ledger session ≡ false }
     requires offer { IsOffer (names_at store.old.ledger.base (history store.old.ledger)) offer }
@@ -107,8 +73,15 @@ fn committed_offer(
     ensures others { LeavesOthers session store.old.ledger store.new.ledger }
 {
     let Offer { change, changed } = offer;
+    has_its_names(&change);
     let made = made_by(&change, &changed);
-    committed(alloc, store, session, change, changed, made)
+    match store.prepare(alloc, session, change, changed) {
+        Ok(prepared) => sealed(store, prepared, made),
+        Err(fault) => {
+            drop(made);
+            answer_of(fault)
+        }
+    }
 }
 
 /// The change that a text is, committed under a session's pin, if nothing of it was changed since.
@@ -129,7 +102,7 @@ pub(crate) fn changed<R: Threads + Sync>(
         Hold::Tried(pinned) => (Hold::Tried(pinned), Answer::HasTried),
         Hold::Pinned(pinned) => match offer_under(rt, alloc, store, &pinned, text) {
             Ok(offer) => {
-                let answer = committed_offer(alloc, store, session, offer);
+                let answer = committed(alloc, store, session, offer);
                 (Hold::Tried(pinned), answer)
             }
             Err(answer) => (Hold::Pinned(pinned), answer),

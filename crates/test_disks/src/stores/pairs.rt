@@ -1,11 +1,8 @@
 //! Two sessions over one store, step by step.
 ghost use Rattle.std.specs.Prelude.{IfOk};
-ghost use Rattle.plan_changes.specs.Stored.{AreStored};
-ghost use Rattle.store_ledger.specs.Ledger.{IsOpenPin};
 ghost use Rattle.test_disks.specs.Holds.{IsHold, LeavesAll, LeavesOthers};
 ghost use Rattle.test_disks.specs.Pairs.{IsPair};
 
-use crate::disks::{QuietDisk, Watch};
 use crate::readings::{cells, named_leaf};
 use crate::stores::answers::Answer;
 use crate::stores::commits::{changed, once};
@@ -14,12 +11,14 @@ use crate::stores::opening::{let_go_store, opened};
 use crate::stores::pins::{pinned, reaped, unpinned};
 use crate::stores::steps::{Step, pair_of, step_of};
 use array_store::{Limits, Store};
-use cell_values::{Bytes, Memory, Name};
+use cell_values::{Memory, Name};
+use logical_plan::Names;
 use plan_changes::entry_named;
 use std::alloc::Global;
 use std::mem::replace;
 use std::thread::Threads;
-use store_ledger::Pinned;
+use test_kit::name_of;
+use test_quiet::{QuietDisk, Watch};
 
 /// A store, and what two sessions have of it.
 pub struct SessionPair {
@@ -56,20 +55,6 @@ pub fn pair_over(alloc: Global, watch: &Watch, limits: Limits) -> Result<Session
     }
 }
 
-fn cells_under(alloc: Global, store: &mut Store<QuietDisk>, pinned: &Pinned, word: &str) -> Answer
-    requires open { IsOpenPin store.old.ledger pinned.now }
-    requires stored { AreStored pinned.now.names }
-    ensures { LeavesAll store.old.ledger store.new.ledger }
-{
-    match named_leaf(alloc, &pinned.names, word) {
-        Some(leaf) => match cells(alloc, store, pinned, &leaf) {
-            Ok(lines) => Answer::Lines(lines),
-            Err(fault) => Answer::Unread(fault),
-        },
-        None => Answer::Unknown,
-    }
-}
-
 /// The cells of a version under a session's pin.
 fn told_cells(
     alloc: Global,
@@ -81,22 +66,38 @@ fn told_cells(
     requires { IsHold store.old.ledger session held.now }
     ensures { LeavesAll store.old.ledger store.new.ledger }
 {
-    match held {
-        Hold::Free => Answer::HasNoPin,
-        Hold::Pinned(pinned) => cells_under(alloc, store, pinned, word),
-        Hold::Tried(pinned) => cells_under(alloc, store, pinned, word),
+    let Some(pinned) = held.pin() else {
+        return Answer::HasNoPin;
+    };
+    match named_leaf(alloc, &pinned.names, word) {
+        Some(leaf) => match cells(alloc, store, pinned, &leaf) {
+            Ok(lines) => Answer::Lines(lines),
+            Err(fault) => Answer::Unread(fault),
+        },
+        None => Answer::Unknown,
     }
 }
 
-/// The numbers of an array's versions under a session's pin; none where no array has the name.
-fn told_versions(alloc: Global, held: &Hold, word: &str) -> Option<Answer> {
-    let pinned = match held {
-        Hold::Free => return Some(Answer::HasNoPin),
-        Hold::Pinned(pinned) | Hold::Tried(pinned) => pinned,
-    };
-    let name = Name::new(Bytes::from_slice(alloc, word.as_bytes()).ok()?)?;
-    let entry = entry_named(&pinned.names.arrays, &name)?;
-    Some(Answer::Numbers(entry.versions.copy().ok()?))
+/// The numbers of an array's versions, if one has the name.
+fn numbers_of(names: &Names, name: &Name) -> Answer {
+    match entry_named(&names.arrays, name) {
+        Some(entry) => match entry.versions.copy() {
+            Ok(numbers) => Answer::Numbers(numbers),
+            Err(Memory) => Answer::Unknown,
+        },
+        None => Answer::Unknown,
+    }
+}
+
+/// The numbers of an array's versions under a session's pin.
+fn told_versions(alloc: Global, held: &Hold, word: &str) -> Answer {
+    match held.pin() {
+        Some(pinned) => match name_of(alloc, word.as_bytes()) {
+            Ok(name) => numbers_of(&pinned.names, &name),
+            Err(Memory) => Answer::Unknown,
+        },
+        None => Answer::HasNoPin,
+    }
 }
 
 fn take_step<R: Threads + Sync>(
@@ -123,7 +124,7 @@ fn take_step<R: Threads + Sync>(
             (held, answer)
         }
         Step::Versions(word) => {
-            let answer = told_versions(alloc, &held, word).unwrap_or(Answer::Unknown);
+            let answer = told_versions(alloc, &held, word);
             (held, answer)
         }
         Step::Renew(_) => (held, Answer::Unknown),

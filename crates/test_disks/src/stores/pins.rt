@@ -9,19 +9,6 @@ use array_store::Store;
 use cell_values::Memory;
 use store_ledger::{PinFault, Pinned};
 
-fn begun<D: Disk>(store: &mut Store<D>, session: u32) -> (Hold, Answer)
-    requires { IsHold store.old.ledger session Hold.Free }
-    ensures own { IsHold store.new.ledger session result.0 }
-    ensures others { LeavesOthers session store.old.ledger store.new.ledger }
-{
-    store.names();
-    match store.pin(session) {
-        Ok(pinned) => (Hold::Pinned(pinned), Answer::Done),
-        Err(PinFault::HistoryFull { entries }) => (Hold::Free, Answer::HistoryFull { entries }),
-        Err(PinFault::Memory) => (Hold::Free, Answer::Memory),
-    }
-}
-
 /// A session that has no pin begins to have one.
 pub(crate) fn pinned<D: Disk>(store: &mut Store<D>, session: u32, held: Hold) -> (Hold, Answer)
     requires { IsHold store.old.ledger session held }
@@ -29,9 +16,18 @@ pub(crate) fn pinned<D: Disk>(store: &mut Store<D>, session: u32, held: Hold) ->
     ensures others { LeavesOthers session store.old.ledger store.new.ledger }
 {
     match held {
-        Hold::Free => begun(store, session),
-        Hold::Pinned(pinned) => (Hold::Pinned(pinned), Answer::HasPin),
-        Hold::Tried(pinned) => (Hold::Tried(pinned), Answer::HasPin),
+        Hold::Free => {
+            store.names();
+            match store.pin(session) {
+                Ok(pinned) => (Hold::Pinned(pinned), Answer::Done),
+                Err(PinFault::HistoryFull { entries }) => (
+                    Hold::Free,
+                    Answer::HistoryFull { entries },
+                ),
+                Err(PinFault::Memory) => (Hold::Free, Answer::Memory),
+            }
+        }
+        held => (held, Answer::HasPin),
     }
 }
 

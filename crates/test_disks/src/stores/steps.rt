@@ -46,7 +46,12 @@ fn step_in<'a>(word: &str, text: &'a str) -> Option<Step<'a>> {
 
 /// The session whose step a line is, and the step; none where it is no step of a session.
 pub fn step_of(line: &str) -> Option<(&str, Step<'_>)> {
-    let (word, rest) = line.split_once(' ')?;
+    let Some((word, rest)) = line.split_once(' ') else {
+        return None;
+    };
     let (session, text) = rest.split_once(' ').unwrap_or((rest, ""));
-    Some((session, step_in(word, text)?))
+    match step_in(word, text) {
+        Some(step) => Some((session, step)),
+        None => None,
+    }
 }

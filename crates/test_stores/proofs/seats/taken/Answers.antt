@@ -1,7 +1,10 @@
-use Rattle.std.proofs.Common.{All, subst}
-use Rattle.turn_lock.proofs.Gathering.{all_last, all_left}
+use Rattle.std.proofs.Common.{All, length, refl, subst}
+use Rattle.turn_lock.proofs.Gathering.{all_last, all_left, longer_by_one}
 use Rattle.test_stores.specs.Visits.{IsFree}
 use Rattle.test_stores.proofs.seats.taken.Goals as goal
+
+pub returns-clause-count : goal.returns-clause-count
+returns-clause-count g c = longer_by_one c.pop.new.self c.in-Some.seat c.args.seats.now (length c.pop.new.self) c.in-Some.ensures refl
 
 pub returns-clause-left : goal.returns-clause-left
 returns-clause-left g c =

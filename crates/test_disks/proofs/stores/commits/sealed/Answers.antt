@@ -1,5 +1,5 @@
 use Rattle.store_state.specs.At.{standing}
-use Rattle.test_disks.specs.Quiet.{quiet_moment}
+use Rattle.test_quiet.specs.Quiet.{quiet_moment}
 use Rattle.test_disks.proofs.Committing.{all_leaves_tried, sealed_leaves_all}
 use Rattle.test_disks.proofs.Holding.{all_but_one, notes_leave_all}
 use Rattle.test_disks.proofs.stores.commits.sealed.Goals as goal

@@ -1,0 +1,60 @@
+//! What calls of a disk cost.
+
+use crate::watch::Watch;
+use afl_outside::DeviceCall;
+use cell_values::Memory;
+use test_kit::{push_count, push_word};
+
+/// How many bytes a page has.
+const PAGE: u64 = 4096;
+
+/// Adds a write: of a whole page as `p3`, else as `p2+8:1`, which is one byte at byte 8 of page 2.
+fn push_write(out: &mut String, at: u64, length: u64) -> Result<(), Memory> {
+    let (page, place) = (at / PAGE, at % PAGE);
+    if place == 0 && length == PAGE {
+        Ok(write!(out, " p{page}")?)
+    } else {
+        Ok(write!(out, " p{page}+{place}:{length}")?)
+    }
+}
+
+/// Adds a write or a sync.
+fn push_call(out: &mut String, call: &DeviceCall) -> Result<(), Memory> {
+    match call {
+        DeviceCall::Write { at, bytes } => push_write(out, *at, bytes.len() as u64),
+        DeviceCall::Sync { done: true } => push_word(out, " sync"),
+        DeviceCall::Sync { done: false } => push_word(out, " failed-sync"),
+        DeviceCall::Length | DeviceCall::Read { .. } => Ok(()),
+    }
+}
+
+fn reads_in(calls: &[DeviceCall]) -> u64 {
+    let mut reads: u64 = 0;
+    for call in calls {
+        if matches!(call, DeviceCall::Read { .. }) {
+            reads = reads.saturating_add(1);
+        }
+    }
+    reads
+}
+
+/// Adds how many reads there are, and then each write and each sync in order.
+fn push_calls(out: &mut String, calls: &[DeviceCall]) -> Result<(), Memory> {
+    push_count(out, reads_in(calls))?;
+    push_word(out, " reads;")?;
+    for call in calls {
+        push_call(out, call)?;
+    }
+    Ok(())
+}
+
+/// Adds what the calls from one on cost.
+pub fn push_costs(out: &mut String, watch: &Watch, from: usize) -> Result<(), Memory> {
+    match watch.disk.try_borrow() {
+        Ok(disk) => {
+            let calls = disk.calls();
+            push_calls(out, &calls[from.min(calls.len())..])
+        }
+        Err(_) => Ok(()),
+    }
+}
