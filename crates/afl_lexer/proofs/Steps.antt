@@ -2,7 +2,7 @@
 use Rattle.std.proofs.Common.{◌≡◌, ℕ, suc, ◌+◌, ◌-◌, ◌<◌, ◌≤◌, Bool, true, false, cond, Option, Some, None, List, [], ◌∷◌, ◌++◌, length, map, take, drop, get_or, refl, sym, ap, subst, ◌∙◌, arith}
 use Rattle.std.specs.Prelude.{if◌then◌else◌, ◌==◌, ◌&&◌, ◌||◌, not}
 use Rattle.std.specs.List.{prefix_len}
-use Rattle.std.proofs.lemmas.Bool.{ne_eqb, eq-eqb, eqb-true, cond_both}
+use Rattle.std.proofs.lemmas.Bool.{false≢true, true≢false, ne_eqb, eq-eqb, eqb-true, cond_both}
 use Rattle.std.proofs.lemmas.List.{drop-drop, get_or-drop, append_assoc, length-drop, take_rest}
 use Rattle.afl_lexer.specs.Quoted.{items, byte_of}
 use Rattle.afl_lexer.specs.Tokens.{is_white}
@@ -100,7 +100,7 @@ escape_by : (v w : Bool) (b c : ℕ) (rest : List ℕ) → (v && not w) ≡ fals
     → (if v then (if w then further 2 (escape_at rest) else Some 0) else further 1 (escape_at (c ∷ rest)))
     ≡ further (if v then 2 else 1) (escape_at (drop (if v then 2 else 1) (b ∷ c ∷ rest)))
 escape_by true true b c rest h = refl
-escape_by true false b c rest h = cc
+escape_by true false b c rest h = absurd (true≢false h)
 escape_by false w b c rest h = refl
 
 escape_step : (xs : List ℕ) → begins_badly xs ≡ false → escape_at xs ≡ further (item_len xs) (escape_at (drop (item_len xs) xs))
@@ -109,13 +109,13 @@ escape_step (b ∷ []) h = refl
 escape_step (b ∷ c ∷ rest) h = escape_by (b == 92) (c == 39 || c == 92) b c rest h
 
 here_by : (v w : Bool) (o p : Option ℕ) → (v && not w) ≡ true → (if v then (if w then o else Some 0) else p) ≡ Some 0
-here_by true true o p h = cc
+here_by true true o p h = absurd (false≢true h)
 here_by true false o p h = refl
-here_by false w o p h = cc
+here_by false w o p h = absurd (false≢true h)
 
 escape_here : (xs : List ℕ) → begins_badly xs ≡ true → escape_at xs ≡ Some 0
-escape_here [] h = cc
-escape_here (b ∷ []) h = cc
+escape_here [] h = absurd (false≢true h)
+escape_here (b ∷ []) h = absurd (false≢true h)
 escape_here (b ∷ c ∷ rest) h = here_by (b == 92) (c == 39 || c == 92) (further 2 (escape_at rest)) (further 1 (escape_at (c ∷ rest))) h
 
 -- no bad escape stands here

@@ -75,26 +75,29 @@ single_back Slash b e = ap (λ (ys : List ℕ). single_symbol (get_or ys 0 0)) e
 single_back Percent b e = ap (λ (ys : List ℕ). single_symbol (get_or ys 0 0)) e
 single_back At b e = ap (λ (ys : List ℕ). single_symbol (get_or ys 0 0)) e
 
+one_is_not_two : {a : ℕ} (b c : ℕ) → b ∷ c ∷ [] ≡ a ∷ [] → ⊥
+one_is_not_two b c e = cc
+
 double_back : (s : Symbol) (b c : ℕ) → b ∷ c ∷ [] ≡ symbol_bytes s → double_symbol b c ≡ Some s
-double_back LeftParen b c e = cc
-double_back RightParen b c e = cc
-double_back LeftBracket b c e = cc
-double_back RightBracket b c e = cc
-double_back Less b c e = cc
-double_back More b c e = cc
+double_back LeftParen b c e = absurd (one_is_not_two b c e)
+double_back RightParen b c e = absurd (one_is_not_two b c e)
+double_back LeftBracket b c e = absurd (one_is_not_two b c e)
+double_back RightBracket b c e = absurd (one_is_not_two b c e)
+double_back Less b c e = absurd (one_is_not_two b c e)
+double_back More b c e = absurd (one_is_not_two b c e)
 double_back AtMost b c e = ap (λ (ys : List ℕ). double_symbol (get_or ys 0 0) (get_or ys 1 0)) e
 double_back AtLeast b c e = ap (λ (ys : List ℕ). double_symbol (get_or ys 0 0) (get_or ys 1 0)) e
-double_back Equal b c e = cc
+double_back Equal b c e = absurd (one_is_not_two b c e)
 double_back Differs b c e = ap (λ (ys : List ℕ). double_symbol (get_or ys 0 0) (get_or ys 1 0)) e
 double_back NotEqual b c e = ap (λ (ys : List ℕ). double_symbol (get_or ys 0 0) (get_or ys 1 0)) e
-double_back Comma b c e = cc
-double_back Colon b c e = cc
-double_back Star b c e = cc
-double_back Plus b c e = cc
-double_back Minus b c e = cc
-double_back Slash b c e = cc
-double_back Percent b c e = cc
-double_back At b c e = cc
+double_back Comma b c e = absurd (one_is_not_two b c e)
+double_back Colon b c e = absurd (one_is_not_two b c e)
+double_back Star b c e = absurd (one_is_not_two b c e)
+double_back Plus b c e = absurd (one_is_not_two b c e)
+double_back Minus b c e = absurd (one_is_not_two b c e)
+double_back Slash b c e = absurd (one_is_not_two b c e)
+double_back Percent b c e = absurd (one_is_not_two b c e)
+double_back At b c e = absurd (one_is_not_two b c e)
 
 symbol_size : (s : Symbol) → length (symbol_bytes s) ≤ 2
 symbol_size LeftParen = omega arith

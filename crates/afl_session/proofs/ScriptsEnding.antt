@@ -1,8 +1,8 @@
 -- How the bytes of a script come, and how it ends.
-use Rattle.std.proofs.Common.{◌≡◌, ℕ, ◌+◌, ◌<◌, List, [], ◌∷◌, ◌++◌, length, take, drop, get_or, true, false, Ok, Err, refl, sym, ◌∙◌, ap, subst, append_assoc}
+use Rattle.std.proofs.Common.{◌≡◌, ℕ, ◌+◌, ◌^◌, ◌<◌, List, [], ◌∷◌, ◌++◌, length, take, drop, get_or, true, false, Ok, Err, refl, sym, ◌∙◌, ap, subst, arith, append_assoc, length-append, length-take-le}
 use Rattle.std.proofs.lemmas.List.{take_more, take-append-drop}
 use Rattle.afl_lexer.specs.Split.{Statement, statements, closed_statements}
-use Rattle.afl_lexer.specs.Inner.Standing.{Splitting}
+use Rattle.afl_lexer.specs.Inner.Standing.{Splitting, StandsAfter, bytes_read}
 use Rattle.std.specs.Io.KnownBytes.{IsAtEnd}
 use Rattle.afl_outside.specs.Counts.{Rose}
 use Rattle.afl_outside.specs.Source.{SourceState, Gives}
@@ -10,7 +10,7 @@ use Rattle.afl_outside.proofs.Streams.{Takes-nothing}
 use Rattle.afl_session.specs.Inner.Serving.{EndsServing, GoesOn, HasAnswered, HasStopped, IsServing, Reached, StopsWithin, end_of}
 use Rattle.afl_session.specs.Session.{AnswerRule, Replies, Serves}
 use Rattle.run_opening.specs.declared.reports.reports.SessionEnd.{SessionEnd}
-use Rattle.run_opening.specs.declared.reports.reports.SessionEnd.TheVariants.{Whole, Source}
+use Rattle.run_opening.specs.declared.reports.reports.SessionEnd.TheVariants.{Whole, Source, Sink, Memory as Wanting}
 use Rattle.run_opening.specs.declared.reports.reports.Mark.{Mark}
 use Rattle.afl_session.specs.declared.scripts.streams.Stopped.{Stopped}
 use Rattle.afl_session.specs.declared.scripts.streams.Stopped.TheVariants.{Fault, Memory}
@@ -44,7 +44,29 @@ module _ (Answered : AnswerRule) (first now now' : Reached) (script bytes : List
         (goes first (closed_statements (script ++ take i bytes)) so_far);
   }
 
+-- a splitter counts the bytes of a script that is short enough
+pub bytes_fit : (script bytes : List ℕ) (i : ℕ) (splitter : Splitting) → StandsAfter (script ++ take i bytes) splitter → i < length bytes
+    → length script + length bytes < 2 ^ 63 → bytes_read splitter < 2 ^ 63
+bytes_fit script bytes i splitter stands within short =
+    omega (arith, short, within, stands.end ∙ length-append script (take i bytes), length-take-le i bytes (omega (arith, within)))
+
+-- a source that gave fewer bytes than that gave such a script
+pub read_short : (a b c : SourceState) (read piece : List ℕ) → Gives a b read → Gives b c piece → c.given < 2 ^ 63 → length read + length piece < 2 ^ 63
+read_short a b c read piece p q short = omega (arith, p.given, q.given, short)
+
 -- ---- the script's end
+
+whole_sink : ¬ (Whole ≡ Sink)
+whole_sink e = cc
+
+whole_memory : ¬ (Whole ≡ Wanting)
+whole_memory e = cc
+
+sink_memory : ¬ (Sink ≡ Wanting)
+sink_memory e = cc
+
+memory_sink : ¬ (Wanting ≡ Sink)
+memory_sink e = cc
 
 module _ (Answered : AnswerRule) (first now now' : Reached) (script : List ℕ) (marks marks' : List Mark) (told : List Statement)
     (all : statements script ≡ closed_statements script ++ told) (so_far : HasAnswered Answered first now (closed_statements script) marks) where
@@ -52,12 +74,12 @@ module _ (Answered : AnswerRule) (first now now' : Reached) (script : List ℕ) 
   ends_whole goes =
       let answered : HasAnswered Answered first now' (statements script) marks' =
       subst (λ (ss : List Statement). HasAnswered Answered first now' ss marks') (sym all) (goes first (closed_statements script) so_far) in
-      record { written = answered.written; takes = answered.takes; replies = (refl, answered.answers); fault = λ e. cc; memory = λ e. absurd (cc (e)) }
+      record { written = answered.written; takes = answered.takes; replies = (refl, answered.answers); fault = λ e. absurd (whole_sink e); memory = λ e. absurd (whole_memory e) }
 
   ends_early : (stopped : Stopped) → HasStopped Answered first now' (statements script) marks' stopped → EndsServing Answered first now' script marks' (end_of stopped)
   ends_early Fault stops =
-      record { written = stops.written; takes = stops.takes; replies = stops.answers; fault = λ e. stops.fault refl; memory = λ e. absurd (cc (e)) }
-  ends_early Memory stops = record { written = stops.written; takes = stops.takes; replies = stops.answers; fault = λ e. cc; memory = λ e. stops.memory refl }
+      record { written = stops.written; takes = stops.takes; replies = stops.answers; fault = λ e. stops.fault refl; memory = λ e. absurd (sink_memory e) }
+  ends_early Memory stops = record { written = stops.written; takes = stops.takes; replies = stops.answers; fault = λ e. absurd (memory_sink e); memory = λ e. stops.memory refl }
 
   pub ends_stopped : (stopped : Stopped) → GoesOn Answered now now' marks marks' told (Err stopped) → EndsServing Answered first now' script marks' (end_of stopped)
   ends_stopped stopped goes =

@@ -1,15 +1,15 @@
 -- One statement more is answered.
-use Rattle.std.proofs.Common.{◌≡◌, ℕ, ◌-◌, Bool, true, false, if◌then◌else◌, ◌⊎◌, List, [], ◌∷◌, ◌++◌, take, drop, Option, None, Some, inl, inr, Result, Ok, Err, MatchResult, OnOk, OnErr, IsErrOf, refl, sym, ◌∙◌, ap, subst, arith, append-nil}
+use Rattle.std.proofs.Common.{◌≡◌, ℕ, ◌-◌, ◌≤◌, Bool, true, false, if◌then◌else◌, ◌⊎◌, List, [], ◌∷◌, ◌++◌, take, drop, Option, None, Some, inl, inr, Result, Ok, Err, MatchResult, OnOk, OnErr, IsErrOf, refl, sym, ◌∙◌, ap, subst, arith, append-nil}
 use Rattle.std.proofs.lemmas.List.{take-append-drop}
 use Rattle.std.proofs.lemmas.List.Folds.{concat-append}
 use Rattle.std.specs.List.{concat}
 use Rattle.afl_lexer.specs.Split.{Statement}
 use Rattle.afl_lexer.specs.Inner.Standing.{Splitting, told}
 use Rattle.afl_lexer.specs.declared.splitter.SplitStep.{SplitStep}
-use Rattle.afl_lexer.specs.declared.splitter.SplitStep.TheVariants.{More, Blank}
+use Rattle.afl_lexer.specs.declared.splitter.SplitStep.TheVariants.{More, Blank, Piece, TooLong}
 use Rattle.afl_outside.specs.Counts.{Rose}
 use Rattle.afl_outside.specs.Disk.{Moment}
-use Rattle.afl_outside.specs.Sink.{Takes}
+use Rattle.afl_outside.specs.Sink.{SinkState, Takes}
 use Rattle.afl_outside.proofs.Streams.{Takes-more}
 use Rattle.result_print.specs.declared.refusal.Refusal.{Refusal}
 use Rattle.result_print.specs.declared.refusal.Refusal.TheVariants as refusals
@@ -176,7 +176,47 @@ module _ (Answered : AnswerRule) (now now' : Reached) (marks marks' : List Mark)
   goes_there (Ok u) ok err fault want = answers ok
   goes_there (Err stopped) ok err fault want = stops stopped err.0 err.1 (λ is. fault (ap Err is)) (λ is. want (ap Err is))
 
+-- ---- a write that failed, behind some bytes
+
+pub writes_front : (a b c : SinkState) (bytes : List ℕ) (at : ℕ) → Takes a b (take at bytes) → Takes b c [] → Takes a c (take at bytes)
+writes_front a b c bytes at p q = subst (Takes a c) (append-nil (take at bytes)) (Takes-more a b c (take at bytes) [] p q)
+
+pub no_fault : {A : Type 0} → ¬ IsErrOf {T = A} {E = Stopped} (Err Memory) Fault
+no_fault is = cc
+
+pub no_want : {A : Type 0} → ¬ IsErrOf {T = A} {E = Stopped} (Err Fault) Memory
+no_want is = cc
+
+pub true_false : ¬ (true ≡ false)
+true_false e = cc
+
+sooner : (a b now : ℕ) → a ≤ b → Rose b now → Rose a now
+sooner a b now le rose = omega (arith, le, rose)
+
+module _ (a b c : SinkState) (bytes : List ℕ) (p : Takes a b bytes) where
+  pub faults_rose : (before now : ℕ) → before ≡ b.faults → now ≡ c.faults → Rose before now → Rose a.faults c.faults
+  faults_rose before now was is rose = subst (Rose a.faults) is (sooner a.faults b.faults now p.later (subst (λ (n : ℕ). Rose n now) was rose))
+
+  pub wants_rose : ¬ Rose b.faults c.faults → Rose b.faults c.faults ⊎ Rose b.wants c.wants → Rose a.wants c.wants
+  wants_rose still (inl rose) = absurd (still rose)
+  wants_rose still (inr rose) = sooner a.wants b.wants c.wants p.wants_later rose
+
+pub still_there : (was now before after : ℕ) → before ≡ was → after ≡ now → ¬ Rose before after → ¬ Rose was now
+still_there was now before after e f still rose = still (subst (λ (n : ℕ). Rose n after) (sym e) (subst (Rose was) (sym f) rose))
+
 -- ---- a statement's turn
+
+-- the statement of a step, by what the splitter shows
+pub piece_told : (step : SplitStep) (splitter : Splitting) (start end : ℕ) (bytes : List ℕ) → step ≡ Piece → start ≡ splitter.start → end ≡ splitter.end
+    → bytes ≡ splitter.bytes → statement_at start end (Some bytes) ∷ [] ≡ told step splitter
+piece_told step splitter start end bytes is a b d =
+    ap (λ (n : ℕ). statement_at n end (Some bytes) ∷ []) a ∙ ap (λ (n : ℕ). statement_at splitter.start n (Some bytes) ∷ []) b
+    ∙ ap (λ (bs : List ℕ). statement_at splitter.start splitter.end (Some bs) ∷ []) d ∙ sym (ap (λ (s : SplitStep). told s splitter) is)
+
+pub too_long_told : (step : SplitStep) (splitter : Splitting) (start end : ℕ) → step ≡ TooLong → start ≡ splitter.start → end ≡ splitter.end
+    → statement_at start end None ∷ [] ≡ told step splitter
+too_long_told step splitter start end is a b =
+    ap (λ (n : ℕ). statement_at n end None ∷ []) a ∙ ap (λ (n : ℕ). statement_at splitter.start n None ∷ []) b ∙ sym (ap (λ (s : SplitStep). told s splitter) is)
 
 module _ {D : Type 0} (style : Style) (moment : D → Moment) (origin : Start D) (own : ℕ) (now now' : Reached) (marks marks' : List Mark) (start end : ℕ) (text : Option (List ℕ)) where
   -- a statement was answered, its reply written as far as it went, and its mark kept

@@ -3,6 +3,7 @@ pub use Rattle.array_rows.proofs.RowsLemmas
 mod AreaLaws
 pub mod CoreLaws
 pub mod ExampleLaws
+pub mod Fronts
 pub mod LawProofs
 pub mod LinkLaws
 mod LinkWitness

@@ -2,12 +2,12 @@
 use Rattle.std.proofs.Common.{◌≡◌, ◌-◌, ◌≤◌, ◌<◌, ℕ, ℤ, true, false, Bool, ◌&&◌, List, [], ◌∷◌, length, take, drop, get_or, refl, sym, ◌∙◌, ap, arith, rules}
 use Rattle.std.specs.Bool.{◌==◌}
 use Rattle.std.specs.Prelude.{int_le, pos}
-use Rattle.std.proofs.lemmas.List.{take_all}
 use Rattle.std.specs.Int.{int_min, int_max}
 use Rattle.array_rows.specs.Dimension.{Dimension}
 use Rattle.array_rows.specs.Boxes.{by_pairs}
 use Rattle.array_geom.specs.Areas.{are_ordered}
 use Rattle.array_geom.specs.Geometry.{first_in, last_in}
+use Rattle.array_geom.proofs.Fronts.{rest, rest_is}
 
 abbrev pub area_meets : List Dimension → List ℕ → List ℤ → List ℤ → Bool
 area_meets dims chunk lo hi = are_ordered (by_pairs int_max (by_pairs first_in dims chunk) lo) (by_pairs int_min (by_pairs (λ d n. int_min d.hi (last_in d n)) dims chunk) hi)
@@ -30,13 +30,6 @@ meets_no_high (d ∷ dims) [] lo hi _ some _ _ = absurd (omega (arith, some))
 meets_no_high (d ∷ dims) (k ∷ chunk) [] hi _ _ some _ = absurd (omega (arith, some))
 meets_no_high (d ∷ dims) (k ∷ chunk) (l ∷ lo) [] _ _ _ _ = refl
 meets_no_high (d ∷ dims) (k ∷ chunk) (l ∷ lo) (h ∷ hi) _ _ _ none = absurd (omega (arith, none))
-
--- the first dimension, and the others, as slices give them
-abbrev rest : {A : Type 0} → List A → List A
-rest xs = take (length xs - 1) (drop 1 xs)
-
-rest_is : {A : Type 0} (x : A) (xs : List A) → rest (x ∷ xs) ≡ xs
-rest_is x xs = take_all (length (x ∷ xs) - 1) xs (omega arith)
 
 abbrev meets_here : Dimension → ℕ → ℤ → ℤ → Bool
 meets_here d k l h = int_le (int_max (first_in d k) l) (int_min (int_min d.hi (last_in d k)) h)

@@ -1,5 +1,5 @@
 -- Two lists item by item, as a function reads them from the front.
-use Rattle.std.proofs.Common.{◌≡◌, ◌++◌, append_assoc, ◌-◌, ◌≤◌, ◌<◌, List, [], ◌∷◌, length, take, drop, get_or, refl, sym, ◌∙◌, ap, arith}
+use Rattle.std.proofs.Common.{◌≡◌, ◌++◌, append-nil, append_assoc, ◌-◌, ◌≤◌, ◌<◌, List, [], ◌∷◌, length, take, drop, get_or, refl, sym, ◌∙◌, ap, arith}
 use Rattle.std.proofs.lemmas.List.{take_all}
 use Rattle.array_rows.specs.Boxes.{by_pairs}
 
@@ -18,6 +18,10 @@ pub by_pairs_none : {A B C : Type 0} (f : A → B → C) (xs : List A) (ys : Lis
 by_pairs_none f [] ys none = refl
 by_pairs_none f (z ∷ xs) [] none = refl
 by_pairs_none f (z ∷ xs) (w ∷ ys) none = absurd (omega (arith, none))
+
+pub no_pairs : {A B C : Type 0} (f : A → B → C) (xs : List A) (ys : List B) (old : List C) → length xs < 1 → old ≡ old ++ by_pairs f xs ys
+no_pairs f [] ys old none = sym (append-nil old)
+no_pairs f (x ∷ xs) ys old none = absurd (omega (arith, none))
 
 -- what is pushed first stands before what the rest gives
 pub pairs_pushed : {A B C : Type 0} (f : A → B → C) (xs : List A) (ys : List B) (x : A) (y : B) (old more new : List C) (z : C) → 1 ≤ length xs → 1 ≤ length ys → x ≡ get_or xs 0 x

@@ -1,9 +1,9 @@
 -- The place of a coordinate, read from the front.
 use Rattle.std.proofs.Common.{◌≡◌, ◌+◌, ◌*◌, ◌-◌, ◌^◌, ◌≤◌, ◌<◌, ℕ, ℤ, pos, ◌+ℤ◌, ◌-ℤ◌, ◌≤ℤ◌, ◌<ℤ◌, List, [], ◌∷◌, length, take, drop, get_or, sym, subst, ◌∙◌, ap, arith, IsTrue}
 use Rattle.std.specs.Prelude.{unsigned_abs}
-use Rattle.std.proofs.lemmas.List.{take_all}
 use Rattle.array_geom.specs.Geometry.{volume, position_in}
 use Rattle.array_geom.specs.Inner.Ranges.{AreLengths, AreLow, is_in_grid}
+use Rattle.array_geom.proofs.Fronts.{rest, rest_is}
 use Rattle.array_geom.proofs.PlaceLaws.{in_grid, some}
 
 pub none_without_low : (low : List ℤ) (lengths : List ℕ) (at : List ℤ) → 1 ≤ length lengths → length low < 1 → IsTrue (is_in_grid low lengths at) → ⊥
@@ -17,12 +17,6 @@ none_without_place low [] at some _ _ _ = absurd (omega (arith, some))
 none_without_place [] (n ∷ lengths) at _ some _ _ = absurd (omega (arith, some))
 none_without_place (l ∷ low) (n ∷ lengths) [] _ _ _ inside = cc
 none_without_place (l ∷ low) (n ∷ lengths) (x ∷ at) _ _ none _ = absurd (omega (arith, none))
-
-abbrev rest : {A : Type 0} → List A → List A
-rest xs = take (length xs - 1) (drop 1 xs)
-
-rest_is : {A : Type 0} (x : A) (xs : List A) → rest (x ∷ xs) ≡ xs
-rest_is x xs = take_all (length (x ∷ xs) - 1) xs (omega arith)
 
 first_row : (low : List ℤ) (lengths : List ℕ) (at : List ℤ) → 1 ≤ length lengths → 1 ≤ length low → 1 ≤ length at
     → position_in low lengths at ≡ unsigned_abs (get_or at 0 (pos 0) -ℤ get_or low 0 (pos 0)) * volume (rest lengths) + position_in (rest low) (rest lengths) (rest at)

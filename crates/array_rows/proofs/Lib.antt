@@ -1,6 +1,7 @@
 pub mod ColumnLaws
 pub mod FaultLaws
 pub mod FormLaws
+pub mod Loops
 pub mod RowLaws
 pub mod RowSets
 pub mod RowsLemmas

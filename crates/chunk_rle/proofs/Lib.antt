@@ -3,6 +3,7 @@ pub use Rattle.array_geom.proofs.NearLemmas
 pub use Rattle.array_geom.proofs.NumberLaws
 pub mod ChunkLaws
 pub mod ExampleLaws
+pub mod FieldReads
 pub mod PayloadLaws
 pub mod PlaceLemmas
 pub mod PositionLaws

@@ -2,7 +2,7 @@
 use Rattle.std.proofs.Common.{◌≡◌, ℕ, zero, suc, ◌+◌, ◌<◌, ◌≤◌, ◌≢◌, true, false, List, [], ◌∷◌, ◌++◌, length, get_or, take, drop, map, replicate, refl, sym, ap, subst, ◌∙◌, append_assoc, arith, add-one, drop-cons}
 use Rattle.std.specs.Prelude.{◌==◌}
 use Rattle.std.proofs.lemmas.Bool.{eqb-true}
-use Rattle.std.proofs.lemmas.List.{append-nil, map-append, nil_from_length, length-drop}
+use Rattle.std.proofs.lemmas.List.{append-nil, drop_more, take_more, map-append, nil_from_length, length-drop}
 use Rattle.array_geom.specs.Datum.{Datum}
 use Rattle.array_geom.specs.Cell.{Cell}
 use Rattle.array_geom.specs.Cell.TheVariants.{Full}
@@ -12,7 +12,7 @@ use Rattle.chunk_rle.specs.declared.runs.Run.{Run}
 use Rattle.chunk_rle.specs.declared.runs.Column.{Column}
 use Rattle.chunk_rle.specs.Table.{is_same}
 use Rattle.chunk_rle.specs.Longest.{numbers_from, positions_of, position_runs, values_of, value_runs}
-use Rattle.chunk_rle.specs.Chunks.{value_of, columns_of, row_at, cells_from}
+use Rattle.chunk_rle.specs.Chunks.{value_of, columns_of, row_at, cells_from, all_values}
 use Rattle.chunk_rle.proofs.PositionLaws
 use Rattle.chunk_rle.proofs.ValueLaws
 
@@ -37,6 +37,13 @@ position_begins start n p rest there e = PositionLaws.run_again start n (p ∷ r
 pub position_ends : (start n : ℕ) → 0 < n → position_runs (numbers_from start n ++ []) ≡ record { start = start; length = n } ∷ []
 position_ends start n there = PositionLaws.run_again start n [] there tt
 
+pub positions_step : (runs runs' : List PosRun) (run run' : PosRun) (i : ℕ) (positions : List ℕ) (all : List PosRun) → i < length positions
+    → ((rest : List ℕ) → runs' ++ position_runs (numbers_from run'.start run'.length ++ rest) ≡ runs ++ position_runs (numbers_from run.start run.length ++ get_or positions i 0 ∷ rest))
+    → runs ++ position_runs (numbers_from run.start run.length ++ drop i positions) ≡ all
+    → runs' ++ position_runs (numbers_from run'.start run'.length ++ drop (i + 1) positions) ≡ all
+positions_step runs runs' run run' i positions all low step before =
+    step (drop (i + 1) positions) ∙ sym (ap (λ (ps : List ℕ). runs ++ position_runs (numbers_from run.start run.length ++ ps)) (drop_more positions i 0 low)) ∙ before
+
 more_copies : (n : ℕ) (v : Datum) → replicate (suc n) v ≡ replicate n v ++ v ∷ []
 more_copies zero v = refl
 more_copies (suc n) v = ap (λ (vs : List Datum). v ∷ vs) (more_copies n v)
@@ -55,6 +62,24 @@ value_begins n v w rest there self e = ValueLaws.run_again n v (w ∷ rest) ther
 
 pub value_ends : (n : ℕ) (v : Datum) → 0 < n → (1 < n → is_same v v ≡ true) → value_runs (replicate n v ++ []) ≡ record { length = n; value = v } ∷ []
 value_ends n v there self = ValueLaws.run_again n v [] there self tt
+
+pub values_step : (runs runs' : List Run) (run run' : Run) (attribute i : ℕ) (cells : List Cell) (cell : Cell) (value : Datum) (all : List Run) → i < length cells → cell ≡ get_or cells i cell
+    → value ≡ value_of attribute cell
+    → ((rest : List Datum) → runs' ++ value_runs (replicate run'.length run'.value ++ rest) ≡ runs ++ value_runs (replicate run.length run.value ++ value ∷ rest))
+    → runs ++ value_runs (replicate run.length run.value ++ map (value_of attribute) (drop i cells)) ≡ all
+    → runs' ++ value_runs (replicate run'.length run'.value ++ map (value_of attribute) (drop (i + 1) cells)) ≡ all
+values_step runs runs' run run' attribute i cells cell value all low is of_cell step before =
+    let opened : drop i cells ≡ cell ∷ drop (i + 1) cells = drop_more cells i cell low ∙ ap (λ (x : Cell). x ∷ drop (i + 1) cells) (sym is) in
+    step (map (value_of attribute) (drop (i + 1) cells))
+    ∙ ap (λ (v : Datum). runs ++ value_runs (replicate run.length run.value ++ v ∷ map (value_of attribute) (drop (i + 1) cells))) of_cell
+    ∙ sym (ap (λ (xs : List Cell). runs ++ value_runs (replicate run.length run.value ++ map (value_of attribute) xs)) opened) ∙ before
+
+pub columns_valued : (columns : List Column) (i : ℕ) (c : Column) (values : List Datum) (all all' : List (List Datum)) → i < length columns → c ≡ get_or columns i c → values ≡ values_of c.runs
+    → all ≡ all_values (take i columns) → all' ≡ all ++ values ∷ [] → all' ≡ all_values (take (i + 1) columns)
+columns_valued columns i c values all all' low is found before pushed =
+    let longer : take (i + 1) columns ≡ take i columns ++ c ∷ [] = take_more columns i c low ∙ ap (λ (x : Column). take i columns ++ x ∷ []) (sym is) in
+    pushed ∙ ap (λ (vs : List (List Datum)). vs ++ values ∷ []) before ∙ ap (λ (v : List Datum). all_values (take i columns) ++ v ∷ []) found
+    ∙ sym (ap (λ (cs : List Column). all_values cs) longer ∙ map-append (λ (column : Column). values_of column.runs) (take i columns) (c ∷ []))
 
 more_columns : (n k : ℕ) (cells : List Cell) → columns_of (suc n) k cells ≡ columns_of n k cells ++ record { runs = value_runs (map (value_of (k + n)) cells) } ∷ []
 more_columns zero k cells = ap (λ (j : ℕ). record { runs = value_runs (map (value_of j) cells) } ∷ []) (omega arith)

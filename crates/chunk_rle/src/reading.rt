@@ -1,5 +1,5 @@
 //! Reading a payload, item by item.
-ghost use Rattle.std.specs.Prelude.{◌≡◌, ◌+◌, ◌<◌, ◌≤◌, ◌^◌, IsTrue, IfOk, MatchOption, Some, None};
+ghost use Rattle.std.specs.Prelude.{◌≡◌, ◌+◌, ◌<◌, ◌≤◌, ◌^◌, ◌∷◌, IsTrue, IfOk, MatchOption, Some, None};
 ghost use Rattle.file_items.specs.Items.{IsRead, repeat};
 ghost use Rattle.chunk_rle.specs.Frames.{frame_in};
 ghost use Rattle.chunk_rle.specs.Inner.Ready.{IsReady};
@@ -73,12 +73,22 @@ fn fields(alloc: Global, bytes: &[u8]) -> Result<(Datum, &[u8]), Stop>
         }
         [3, rest @ ..] => Ok((Datum::Truth(false), rest)),
         [4, rest @ ..] => Ok((Datum::Truth(true), rest)),
-        [5] => Err(Stop::Left(0)),
-        [5, code, rest @ ..] => match Code::new(*code) {
+        [5, rest @ ..] => missing(rest),
+        [_, ..] => Err(Stop::Left(0)),
+    }
+}
+
+/// The code of a missing value, behind its tag.
+#[tactic(auto, unfolding(crate::specs::Table::value_fields))]
+fn missing(bytes: &[u8]) -> Result<(Datum, &[u8]), Stop>
+    ensures { IsRead (λ x. (x.0, x.1.now)) result (value_fields (5 ∷ bytes.now)) }
+{
+    match bytes {
+        [] => Err(Stop::Left(0)),
+        [code, rest @ ..] => match Code::new(*code) {
             Some(code) => Ok((Datum::Missing(code), rest)),
             None => Err(Stop::Left(0)),
         },
-        [_, ..] => Err(Stop::Left(0)),
     }
 }
 

@@ -22,7 +22,7 @@ use Rattle.file_meaning.specs.BlobAt.{BlobAt}
 use Rattle.file_meaning.specs.CatalogArray.{CatalogArray}
 use Rattle.file_meaning.specs.Catalog.{Catalog}
 use Rattle.file_meaning.specs.Spelling.{spelling}
-use Rattle.file_meaning.specs.Records.{entries_of, with_new, with_directory, without}
+use Rattle.file_meaning.specs.Records.{entries_of, with_new, with_directory}
 use Rattle.file_meaning.specs.Records as records
 use Rattle.file_meaning.specs.Changed.{after_change, changed}
 use Rattle.commit_pages.specs.Costs.{directory_of, directory_for, catalog_of, chain_pages}

@@ -1,6 +1,8 @@
 -- Steps of loops over blobs and their chunks.
-use Rattle.std.proofs.Common.{◌≡◌, ◌∙◌, ℕ, zero, suc, ◌+◌, ◌<◌, ◌≤◌, min, List, [], ◌∷◌, ◌++◌, length, get_or, take, refl, sym, ap, arith, add-one}
-use Rattle.std.proofs.lemmas.List.{length-append}
+use Rattle.std.proofs.Common.{◌≡◌, ◌∙◌, ℕ, zero, suc, ◌+◌, ◌<◌, ◌≤◌, min, List, [], ◌∷◌, ◌++◌, length, map, get_or, take, refl, sym, ap, subst, arith, add-one, append_assoc, append-nil}
+use Rattle.std.specs.List.{flat_map, AllByRecursion}
+use Rattle.std.proofs.lemmas.List.{length-append, map-append, take_more}
+use Rattle.std.proofs.lemmas.List.Concat.{flat_map-append}
 use Rattle.arrayvec.specs.ArrayVec.{ArrayVec}
 use Rattle.array_rows.specs.Boxes.{by_pairs}
 use Rattle.chunk_map.specs.declared.directory.DirEntry.{DirEntry}
@@ -62,3 +64,27 @@ entries_step birth ns ps i count n p entry old new lt is en ep ee before made =
 pub entries_end : (birth : ℕ) (ns : List (ArrayVec ℕ)) (ps : List Placed) (i count : ℕ) (all : List DirEntry) → count ≤ i → count ≡ min (length ns) (length ps)
     → all ≡ by_pairs (entry_of birth) (take i ns) (take i ps) → all ≡ by_pairs (entry_of birth) ns ps
 entries_end birth ns ps i count all le is before = before ∙ pairs_take (entry_of birth) i ns ps (omega (arith, le, is))
+
+-- ---- one more item of a loop
+
+module _ {A : Type 0} (xs : List A) (i : ℕ) (x : A) (within : i < length xs) (is : x ≡ get_or xs i x) where
+  one_taken : take i xs ++ x ∷ [] ≡ take (i + 1) xs
+  one_taken = ap (λ y. take i xs ++ y ∷ []) is ∙ sym (take_more xs i x within)
+
+  pub map_more : {B : Type 0} (f : A → B) (made next : List B) (y : B) → made ≡ map f (take i xs) → y ≡ f x → next ≡ made ++ y ∷ [] → next ≡ map f (take (i + 1) xs)
+  map_more f made next y so_far same e =
+      e ∙ ap (λ ys. ys ++ y ∷ []) so_far ∙ ap (λ z. map f (take i xs) ++ z ∷ []) same ∙ sym (map-append f (take i xs) (x ∷ [])) ∙ ap (map f) one_taken
+
+  pub flat_more : {B : Type 0} (f : A → List B) (old made next ys : List B) → made ≡ old ++ flat_map f (take i xs) → ys ≡ f x → next ≡ made ++ ys →
+      next ≡ old ++ flat_map f (take (i + 1) xs)
+  flat_more f old made next ys so_far same e =
+      e ∙ ap (λ zs. zs ++ ys) so_far ∙ append_assoc old (flat_map f (take i xs)) ys
+      ∙ ap (λ zs. old ++ (flat_map f (take i xs) ++ zs)) (same ∙ sym (append-nil (f x)))
+      ∙ ap (λ zs. old ++ zs) (sym (flat_map-append f (take i xs) (x ∷ [])) ∙ ap (flat_map f) one_taken)
+
+all_snoc : {A : Type 0} (P : A → Type 0) (xs : List A) (x : A) → AllByRecursion P xs → P x → AllByRecursion P (xs ++ x ∷ [])
+all_snoc P [] x all one = (one, tt)
+all_snoc P (y ∷ xs) x all one = (all.0, all_snoc P xs x all.1 one)
+
+pub all_more : {A : Type 0} (P : A → Type 0) (xs next : List A) (x : A) → AllByRecursion P xs → P x → next ≡ xs ++ x ∷ [] → AllByRecursion P next
+all_more P xs next x all one e = subst (AllByRecursion P) (sym e) (all_snoc P xs x all one)

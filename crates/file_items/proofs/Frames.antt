@@ -41,6 +41,13 @@ frame_more xs i d h =
     capped (frame_size (take i xs)) (frame_length (slice_index_or xs i d)) (2 ^ 64 - 1) (omega arith)
     ∙ ap (λ n. min n (2 ^ 64 - 1)) (sym (ap frame_size (take_more xs i d h) ∙ frame_size-append (take i xs) (slice_index_or xs i d)))
 
+pub frame_step : (xs : List Dimension) (i : ℕ) (d : Dimension) (size size' long : ℕ) → i < length xs → d ≡ slice_index_or xs i d → size ≡ min (frame_size (take i xs)) (2 ^ 64 - 1)
+    → long ≡ min (frame_length d) (2 ^ 64 - 1) → size' ≡ min (size * long) (2 ^ 64 - 1) → size' ≡ min (frame_size (take (i + 1) xs)) (2 ^ 64 - 1)
+frame_step xs i d size size' long low is before along now =
+    now ∙ ap (λ (n : ℕ). min (n * long) (2 ^ 64 - 1)) before
+    ∙ ap (λ (n : ℕ). min (min (frame_size (take i xs)) (2 ^ 64 - 1) * n) (2 ^ 64 - 1)) (along ∙ ap (λ (e : Dimension). min (frame_length e) (2 ^ 64 - 1)) is)
+    ∙ frame_more xs i d low
+
 small_cap : (n : ℕ) → nat_le (min n (2 ^ 64 - 1)) 281474976710656 ≡ nat_le n 281474976710656
 small_cap n = grind arith
 

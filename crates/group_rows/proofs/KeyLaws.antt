@@ -1,14 +1,16 @@
 -- The groups of rows, row by row.
-use Rattle.std.proofs.Common.{◌≡◌, ℕ, ℤ, zero, suc, pos, negsuc, ◌+◌, ◌-◌, ◌/◌, ◌^◌, ◌<◌, ◌≤◌, ◌≤ℤ◌, ◌+ℤ◌, ◌-ℤ◌, unsigned_abs, min, List, [], ◌∷◌, ◌++◌, map, length, get_or, take, drop, append_assoc, sym, ap, ◌∙◌, subst, arith}
+use Rattle.std.proofs.Common.{◌≡◌, ℕ, ℤ, zero, suc, pos, negsuc, ◌+◌, ◌-◌, ◌/◌, ◌^◌, ◌<◌, ◌≤◌, ◌≤ℤ◌, ◌+ℤ◌, ◌-ℤ◌, unsigned_abs, min, List, [], ◌∷◌, ◌++◌, map, length, get_or, take, drop, append_assoc, length-append, true, ◌&&◌, sym, ap, ◌∙◌, subst, arith}
 use Rattle.std.proofs.lemmas.List.{take_more, take_rest, map-append, length-map}
-use Rattle.std.specs.Prelude.{slice_index_or}
+use Rattle.std.specs.Prelude.{slice_index_or, int_le}
 use Rattle.std.proofs.lemmas.Int.{ints}
 use Rattle.std.specs.Int.{w64, saturate_signed}
 use Rattle.arrayvec.specs.ArrayVec.{ArrayVec}
 use Rattle.cell_values.specs.declared.datum.Row.{Row}
 use Rattle.cell_values.specs.declared.schema.Dimension.{Dimension}
+use Rattle.array_rows.specs.Boxes.{is_between}
 use Rattle.array_rows.specs.Rows.{Coordinate}
-use Rattle.array_geom.specs.Inner.Ranges.{IsNear}
+use Rattle.array_geom.specs.Inner.Ranges.{IsNear, AreNear}
+use Rattle.array_geom.proofs.TestLaws.{and_parts, le_from_test}
 use Rattle.logical_plan.specs.Groups.{block}
 use Rattle.group_rows.specs.Inner.Keys.{block_at}
 use Rattle.std.proofs.Common.{Result}
@@ -69,3 +71,41 @@ next_block (first ∷ dims) (size ∷ sizes) (x ∷ c) out out' new d b k l m e 
     ∙ (λ i. g i ++ block_at (take_rest (first ∷ dims) 1 i) (take_rest (size ∷ sizes) 1 i) (take_rest (x ∷ c) 1 i))
     ∙ append_assoc out (b ∷ []) (block_at dims sizes c)
     ∙ ap (λ (z : ℤ). out ++ z ∷ block_at dims sizes c) (f ∙ ap (λ (z : Dimension). block z.lo size x) e)
+
+-- what is known of a dimension and a number from the front, and behind them
+pub record IsFront (d : Dimension) (dims : List Dimension) (c : List ℤ) : Type 0 where
+  pub near : IsNear d
+  pub low : d.lo ≤ℤ get_or c 0 (pos 0)
+  pub high : get_or c 0 (pos 0) ≤ℤ d.hi
+  pub others : AreNear (take (length dims - 1) (drop 1 dims))
+  pub inside : is_between (map (λ (e : Dimension). e.lo) (take (length dims - 1) (drop 1 dims)))
+      (map (λ (e : Dimension). e.hi) (take (length dims - 1) (drop 1 dims))) (take (length c - 1) (drop 1 c)) ≡ true
+
+pub front : (d : Dimension) (dims : List Dimension) (c : List ℤ) → 1 ≤ length dims → 1 ≤ length c → d ≡ slice_index_or dims 0 d → AreNear dims
+    → is_between (map (λ (e : Dimension). e.lo) dims) (map (λ (e : Dimension). e.hi) dims) c ≡ true → IsFront d dims c
+front d [] c some _ _ _ _ = absurd (omega (arith, some))
+front d (first ∷ dims) [] _ some _ _ _ = absurd (omega (arith, some))
+front d (first ∷ dims) (x ∷ c) _ _ is near inside =
+    let Inside = λ (ds : List Dimension) (at : List ℤ). is_between (map (λ (e : Dimension). e.lo) ds) (map (λ (e : Dimension). e.hi) ds) at in
+    let both = and_parts (int_le first.lo x && int_le x first.hi) (Inside dims c) inside in
+    let ends = and_parts (int_le first.lo x) (int_le x first.hi) both.0 in
+    record {
+      near = subst IsNear (sym is) near.0;
+      low = subst (λ (e : Dimension). e.lo ≤ℤ x) (sym is) (le_from_test first.lo x ends.0);
+      high = subst (λ (e : Dimension). x ≤ℤ e.hi) (sym is) (le_from_test x first.hi ends.1);
+      others = subst AreNear (sym (take_rest (first ∷ dims) 1)) near.1;
+      inside = ap (λ (ds : List Dimension). Inside ds (take (length (x ∷ c) - 1) c)) (take_rest (first ∷ dims) 1)
+          ∙ ap (Inside dims) (take_rest (x ∷ c) 1) ∙ both.1;
+    }
+
+pub fewer : {A : Type 0} (xs : List A) → 1 ≤ length xs → length (take (length xs - 1) (drop 1 xs)) < length xs
+fewer [] some = absurd (omega (arith, some))
+fewer (x ∷ xs) some = let same : length (take (length (x ∷ xs) - 1) xs) ≡ length xs = ap length (take_rest (x ∷ xs) 1) in omega arith
+
+-- of six places, one is taken for the first block
+pub room_left : {A : Type 0} (out new : List ℤ) (b : ℤ) (xs : List A) → 1 ≤ length xs → new ≡ out ++ b ∷ [] → length out + length xs ≤ 6
+    → length new + length (take (length xs - 1) (drop 1 xs)) ≤ 6
+room_left out new b [] some is room = absurd (omega (arith, some))
+room_left out new b (x ∷ xs) some is room =
+    let more : length new ≡ length out + 1 = ap length is ∙ length-append out (b ∷ []) in
+    let same : length (take (length (x ∷ xs) - 1) xs) ≡ length xs = ap length (take_rest (x ∷ xs) 1) in omega arith

@@ -248,7 +248,7 @@ made_all made all (x ∷ es) e f = absurd (omega (arith, f))
 
 -- ---- runs of cells of one group
 
-all_push : {A : Type 0} (p : A → Bool) (xs : List A) (x : A) → list_all p xs ≡ true → p x ≡ true → list_all p (xs ++ x ∷ []) ≡ true
+pub all_push : {A : Type 0} (p : A → Bool) (xs : List A) (x : A) → list_all p xs ≡ true → p x ≡ true → list_all p (xs ++ x ∷ []) ≡ true
 all_push p [] x h k = and_both (p x) true k refl
 all_push p (y ∷ xs) x h k =
     let parts = and_parts (p y) (list_all p xs) h in

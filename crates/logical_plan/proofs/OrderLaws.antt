@@ -1,10 +1,11 @@
 -- The order of values is a total one.
-use Rattle.std.proofs.Common.{◌≡◌, ℕ, ◌+◌, Bool, true, false, List, [], refl, sym, ap, ◌∙◌, arith}
+use Rattle.std.proofs.Common.{◌≡◌, ℕ, zero, suc, ◌+◌, Bool, true, false, List, [], refl, sym, ap, ◌∙◌, arith}
+use Rattle.std.proofs.lemmas.Bool.{false≢true}
 use Rattle.std.proofs.lemmas.Cmp.{nat_cmp_total, nat_list_cmp_total, int_cmp_total, on_total, then_total}
 use Rattle.std.specs.Cmp.{IsTotalOrder, bool_cmp_total}
 use Rattle.std.specs.Cmp.Lexicographic.{slice_cmp}
 use Rattle.std.specs.FinMap.{int_cmp-IsAntisymmetric, nat_cmp-IsAntisymmetric, slice_cmp-IsAntisymmetric}
-use Rattle.std.specs.Ordering.{nat_cmp, int_cmp, bool_cmp, on, then_cmp, ordering_then, ordering_reverse}
+use Rattle.std.specs.Ordering.{nat_cmp, int_cmp, bool_cmp, on, is_eq, then_cmp, ordering_then, ordering_reverse}
 use Rattle.std.specs.declared.cmp.Ordering.{Ordering}
 use Rattle.std.specs.declared.cmp.Ordering.TheVariants.{Less, Equal, Greater}
 use Rattle.cell_values.specs.declared.datum.Datum.{Datum}
@@ -57,18 +58,31 @@ total = record {
   congr = λ u v w p. same u w ∙ parts_total.congr u v w (sym (same u v) ∙ p) ∙ sym (same v w);
 }
 
+kind_at : ℕ → FaultKind
+kind_at zero = Overflow
+kind_at (suc zero) = DivideByZero
+kind_at (suc (suc zero)) = OutOfBounds
+kind_at (suc (suc (suc zero))) = Collision
+kind_at n = NullInNotNull
+
+kind_back : (k : FaultKind) → kind_at (kind_place k) ≡ k
+unfolding kind_at
+kind_back Overflow = refl
+kind_back DivideByZero = refl
+kind_back OutOfBounds = refl
+kind_back Collision = refl
+kind_back NullInNotNull = refl
+
 same_kind : (k l : FaultKind) → nat_cmp (kind_place k) (kind_place l) ≡ Equal → k ≡ l
-same_kind Overflow Overflow e = refl
-same_kind DivideByZero DivideByZero e = refl
-same_kind OutOfBounds OutOfBounds e = refl
-same_kind Collision Collision e = refl
-same_kind NullInNotNull NullInNotNull e = refl
-same_kind k l e = cc
+same_kind k l e = sym (kind_back k) ∙ ap kind_at (nat_cmp-IsAntisymmetric (kind_place k) (kind_place l) e) ∙ kind_back l
 
 same_truth : (a b : Bool) → bool_cmp a b ≡ Equal → a ≡ b
 same_truth true true e = refl
 same_truth false false e = refl
 same_truth a b e = cc
+
+not_equal : (o : Ordering) → is_eq o ≡ false → o ≡ Equal → ⊥
+not_equal o d e = false≢true (sym d ∙ ap is_eq e)
 
 exact : (v w : Datum) → datum_cmp v w ≡ Equal → v ≡ w
 exact (Int x) (Int y) e = ap Int (int_cmp-IsAntisymmetric x y e)
@@ -79,7 +93,7 @@ exact Null (Missing d) e = let f : 0 ≡ d + 1 = nat_cmp-IsAntisymmetric 0 (d + 
 exact (Missing c) Null e = let f : c + 1 ≡ 0 = nat_cmp-IsAntisymmetric (c + 1) 0 e in absurd (omega (arith, f))
 exact (Missing c) (Missing d) e = let f : c + 1 ≡ d + 1 = nat_cmp-IsAntisymmetric (c + 1) (d + 1) e in ap Missing (omega (arith, f))
 exact (Bad k) (Bad l) e = ap Bad (same_kind k l e)
-exact v w e = cc
+exact v w e = absurd (not_equal (datum_cmp v w) refl e)
 
 pub values_are_ordered : ValuesAreOrdered
 values_are_ordered = (total, exact)

@@ -5,9 +5,9 @@ use Rattle.std.specs.Bool.{OnTrue}
 use Rattle.std.specs.declared.option.Option.{Option}
 use Rattle.std.specs.Int.{div_ceil}
 use Rattle.std.proofs.Math.Nat.{mul-add, mul-one}
-use Rattle.std.proofs.lemmas.List.{take_more, drop_more, take-append-drop, append-nil, length-take}
+use Rattle.std.proofs.lemmas.List.{take_all, take_more, drop_more, take-append-drop, append-nil, length-take}
 use Rattle.std.proofs.lemmas.Grind.{flat_map-append}
-use Rattle.page_chain.specs.Pages.{page_size, page_at, has_page, first_past}
+use Rattle.page_chain.specs.Pages.{page_size, page_at, has_page, blob, first_past}
 
 -- so many pages have room for so many bytes
 pub enough : (room count : ℕ) → 0 < room → count ≤ room * div_ceil count room
@@ -57,9 +57,9 @@ blob_past seen pages i page bytes within is past so_far =
     ∙ find_first (λ p. not (has_page page_size seen p)) page (drop (i + 1) pages) true (ap not past)
 
 -- the same, over a disk that may not tell its bytes
-pub blob_starts : (o : Option (List ℕ)) → IfSome o (λ seen. BlobSoFar seen [] [])
-blob_starts None = tt
-blob_starts (Some seen) = record { whole = refl; content = refl }
+pub blob_starts : (o : Option (List ℕ)) (bytes : List ℕ) → bytes ≡ [] → IfSome o (λ seen. BlobSoFar seen [] bytes)
+blob_starts None bytes none = tt
+blob_starts (Some seen) bytes none = record { whole = refl; content = none }
 
 pub blob_goes_on : (o now : Option (List ℕ)) (pages : List ℕ) (i page : ℕ) (b : Bool) (piece bytes bytes' : List ℕ) → now ≡ o → i < length pages → slice_index pages i ≡ page → b ≡ true
     → IfSome now (λ seen. b ≡ has_page page_size seen page) → IfSome now (λ seen. OnTrue b (piece ≡ page_at page_size seen page))
@@ -77,12 +77,24 @@ blob_stops (Some seen) now pages i page b bytes same within is past whole so_far
     let here : b ≡ has_page page_size seen page = subst (λ (o : Option (List ℕ)). IfSome o (λ seen. b ≡ has_page page_size seen page)) same whole in
     blob_past seen pages i page bytes within is (sym here ∙ past) so_far
 
+pub blob_done : (o : Option (List ℕ)) (pages : List ℕ) (i count : ℕ) (bytes bytes' : List ℕ) → length pages ≤ i → bytes' ≡ take count bytes → IfSome o (λ seen. BlobSoFar seen (take i pages) bytes)
+    → IfSome o (λ seen. (first_past page_size seen pages ≡ None) × (bytes' ≡ blob page_size seen pages count))
+blob_done None pages i count bytes bytes' all cut so_far = tt
+blob_done (Some seen) pages i count bytes bytes' all cut so_far =
+    let whole : take i pages ≡ pages = take_all i pages all in (
+      ap (first_past page_size seen) (sym whole) ∙ so_far.whole,
+      cut ∙ ap (take count) (so_far.content ∙ ap (flat_map (page_at page_size seen)) whole),
+    )
+
 -- bytes that fill so many pages' room
 pub one_more_full : (room : ℕ) (bytes piece bytes' : List ℕ) (i : ℕ) → bytes' ≡ bytes ++ piece → length piece ≡ room → length bytes ≡ room * i → length bytes' ≡ room * (i + 1)
 one_more_full room bytes piece bytes' i more size so_far =
     let both : room * (i + 1) ≡ room * i + room * 1 = mul-add room i 1 in
     let one : room * 1 ≡ room = mul-one room in
     omega (arith, ap (λ (xs : List ℕ). length xs) more, length-append bytes piece)
+
+pub none_full : (room : ℕ) (bytes : List ℕ) → bytes ≡ [] → length bytes ≡ room * 0
+none_full room bytes none = ap length none ∙ omega arith
 
 pub all_there : (room : ℕ) (bytes : List ℕ) (pages count : ℕ) → 0 < room → pages ≡ div_ceil count room → length bytes ≡ room * pages → length (take count bytes) ≡ count
 all_there room bytes pages count some is size =

@@ -1,5 +1,5 @@
 -- Following the links of a chain one by one.
-use Rattle.std.proofs.Common.{◌≡◌, ◌≢◌, ◌<◌, ℕ, suc, ◌-◌, Bool, true, false, List, [], ◌∷◌, ◌++◌, take, drop, refl, sym, ◌∙◌, ap, subst, arith, append_assoc}
+use Rattle.std.proofs.Common.{◌≡◌, ◌≢◌, ◌<◌, ℕ, suc, ◌+◌, ◌-◌, Bool, true, false, List, [], ◌∷◌, ◌++◌, length, take, drop, refl, sym, ◌∙◌, ap, subst, arith, append_assoc}
 use Rattle.std.specs.Prelude.{if◌then◌else◌, ◌==◌, ◌&&◌, not, nat_eq, nat_lt, flat_map, IfSome, Some, None, Result, Ok, Err}
 use Rattle.std.specs.declared.option.Option.{Option}
 use Rattle.std.specs.Bool.{OnTrue}
@@ -110,6 +110,9 @@ Followed seen used at link used' piece result = (in_use : List ℕ) → used ≡
 abbrev SoFar : List ℕ → List ℕ → ℕ → ℕ → ℕ → FinSet nat_cmp → ℕ → ℕ → ℕ → List ℕ → List ℕ → Type 0
 SoFar seen taken holder first count used at link due pages bytes = ChainSoFar seen taken holder first (pages_for (content_size page_size) count) used at link due pages bytes
 
+pub none_before : (due all : ℕ) (pages : List ℕ) → pages ≡ [] → due ≡ all → length pages + due ≡ all
+none_before due all pages none is = let no : length pages ≡ 0 = ap length none in omega (arith, no, is)
+
 pub chain_fails : (o now : Option (List ℕ)) (taken : List ℕ) (holder first count : ℕ) (used used' : FinSet nat_cmp) (at link due : ℕ) (pages bytes piece : List ℕ) (cause : OpenCause) → now ≡ o → count ≢ 0 → 0 < due
     → IfSome now (λ seen. Followed seen used at link used' piece (Err cause)) → IfSome o (λ seen. SoFar seen taken holder first count used at link due pages bytes)
     → IfSome o (λ seen. IsChainRead seen taken holder first count (Err cause))
@@ -119,6 +122,15 @@ chain_fails (Some seen) now taken holder first count used used' at link due page
     is_followed seen taken holder first count some ∙ chain_wrong seen taken holder first (pages_for (content_size page_size) count) used used' at link due page pages bytes piece more
     (subst (λ (o : Option (List ℕ)). IfSome o (λ seen. Followed seen used at link used' piece (Err (NotDatabase page)))) same followed) so_far
 chain_fails (Some seen) now taken holder first count used used' at link due pages bytes piece Memory same some more followed so_far = tt
+
+pub chain_begins : (o : Option (List ℕ)) (taken : List ℕ) (holder first count due : ℕ) (used : FinSet nat_cmp) (pages bytes : List ℕ) → used ≡ from_list taken
+    → due ≡ pages_for (content_size page_size) count → pages ≡ [] → bytes ≡ [] → IfSome o (λ seen. SoFar seen taken holder first count used holder first due pages bytes)
+chain_begins None taken holder first count due used pages bytes set all no_pages no_bytes = tt
+chain_begins (Some seen) taken holder first count due used pages bytes set all no_pages no_bytes =
+    subst (λ (n : ℕ). SoFar seen taken holder first count used holder first n pages bytes) (sym all)
+    (subst (λ (xs : List ℕ). SoFar seen taken holder first count used holder first (pages_for (content_size page_size) count) xs bytes) (sym no_pages)
+    (subst (λ (xs : List ℕ). SoFar seen taken holder first count used holder first (pages_for (content_size page_size) count) [] xs) (sym no_bytes)
+    (chain_starts seen taken holder first (pages_for (content_size page_size) count) used set)))
 
 pub chain_goes_on : (o now : Option (List ℕ)) (taken : List ℕ) (holder first count : ℕ) (used used' : FinSet nat_cmp) (at link due next : ℕ) (pages bytes piece pages' bytes' : List ℕ) (due' : ℕ) → now ≡ o → (0 < due) × (due' ≡ due - 1)
     → pages' ≡ pages ++ link ∷ [] → bytes' ≡ bytes ++ drop 4 piece → IfSome now (λ seen. Followed seen used at link used' piece (Ok next))
@@ -155,6 +167,16 @@ taken_link (Some seen) used holder link had = λ taken is. (
   refl,
   ap (λ (b : Bool). nat_lt 0 link && has_page page_size seen link && not b) (sym (contains-from_list_nat taken link) ∙ ap (λ (s : FinSet nat_cmp). contains s link) (sym is) ∙ had)
       ∙ and_false (nat_lt 0 link && has_page page_size seen link),
+)
+
+-- a page that the disk hasn't whole
+pub past_link : (o : Option (List ℕ)) (used : FinSet nat_cmp) (holder link : ℕ) (b : Bool) → b ≡ false → IfSome o (λ seen. b ≡ has_page page_size seen link)
+    → IfSome o (λ seen. (taken : List ℕ) → used ≡ from_list taken → (holder ≡ holder) × (names_page page_size seen taken link ≡ false))
+past_link None used holder link b past whole = tt
+past_link (Some seen) used holder link b past whole = λ taken is. (
+  refl,
+  ap (λ (t : Bool). nat_lt 0 link && t && not (list_any (λ page. nat_eq page link) taken)) (sym whole ∙ past)
+      ∙ ap (λ (t : Bool). t && not (list_any (λ page. nat_eq page link) taken)) (and_false (nat_lt 0 link)),
 )
 
 pub link_followed : (o : Option (List ℕ)) (used used' : FinSet nat_cmp) (holder link next : ℕ) (piece : List ℕ) (b : Bool) → link ≢ 0 → contains used link ≡ false → used' ≡ insert used link → b ≡ true

@@ -1,12 +1,16 @@
 -- How runs of calls of a disk go on.
-use Rattle.std.proofs.Common.{◌≡◌, inl, inr, ⊎_elim, ℕ, List, ◌+◌, ◌++◌, length, refl, sym, ◌∙◌, subst, arith, length-append}
+use Rattle.std.proofs.Common.{◌≡◌, ◌≤◌, inl, inr, ⊎_elim, ℕ, List, ◌+◌, ◌++◌, length, refl, sym, ◌∙◌, ap, subst, arith, length-append}
 use Rattle.std.proofs.lemmas.List.{get_or_append_left, get_or-append-add}
-use Rattle.std.specs.Prelude.{IsTrue, IfSome, Some, None}
+use Rattle.std.specs.Prelude.{IsTrue, IfSome, Some, None, Ok, Err, IsErrOf}
 use Rattle.std.specs.declared.option.Option.{Option}
+use Rattle.afl_outside.specs.Counts.{Rose}
 use Rattle.afl_outside.specs.Disk.{DiskState, DiskGoesOn, Elapses, LeavesOnly, Follows}
 use Rattle.afl_outside.proofs.Moments.{started, goes_on, moment_at}
 use Rattle.page_chain.specs.Places.{IsNone, KeepsPages}
 use Rattle.page_chain.specs.Inner.Runs.{OnlyReads, OnlyWrites, Over, Sees}
+use Rattle.page_chain.specs.declared.fault.BlobFault.TheVariants as faults
+use Rattle.page_chain.specs.declared.fault.OpenCause.TheVariants as causes
+use Rattle.page_chain.specs.declared.fault.Stopped.TheVariants as stops
 use Rattle.page_chain.proofs.Kept.{keeps_self, keeps_on, keeps_more}
 
 pub stands : (s : DiskState) → DiskGoesOn s s
@@ -136,3 +140,40 @@ sees_on a b c P Q R join same p q honest =
 pub sees_more : (a b : DiskState) (P Q : List ℕ → List ℕ → Type 0) → ((x y : List ℕ) → P x y → Q x y) → Sees a b P → Sees a b Q
 sees_more a b P Q f p honest =
     map_some a.seen (λ seen. (now : List ℕ) × (b.seen ≡ Some now) × P seen now) (λ seen. (now : List ℕ) × (b.seen ≡ Some now) × Q seen now) (λ x h. (h.0, h.1, f x h.0 h.2)) (p honest)
+
+pub some_unit : (o : Option (List ℕ)) → IfSome o (λ seen. Unit {0})
+some_unit None = tt
+some_unit (Some x) = tt
+
+pub some_all : (o : Option (List ℕ)) (P : List ℕ → Type 0) → ((x : List ℕ) → P x) → IfSome o P
+some_all None P f = tt
+some_all (Some x) P f = f x
+
+-- a later call's fault is one of the run
+pub rose_on : (a b c : ℕ) → a ≤ b → Rose b c → Rose a c
+rose_on a b c low rose = omega (arith, low, rose)
+
+pub rose_told : (a b x y : ℕ) → x ≡ a → y ≡ b → Rose x y → Rose a b
+rose_told a b x y before now rose = omega (arith, before, now, rose)
+
+-- other answers are no fault of the disk
+pub ok_no_fault : {T E P : Type 0} (x : T) (e : E) → IsErrOf (Ok x) e → P
+ok_no_fault x e is = cc
+
+pub want_no_fault : {T P : Type 0} → IsErrOf {T = T} (Err stops.Memory) stops.Disk → P
+want_no_fault is = cc
+
+pub blob_want_no_fault : {T P : Type 0} → IsErrOf {T = T} (Err faults.Memory) faults.Disk → P
+blob_want_no_fault is = cc
+
+pub damage_no_fault : {T P : Type 0} (page : ℕ) → IsErrOf {T = T} (Err (faults.Damaged page)) faults.Disk → P
+damage_no_fault page is = cc
+
+pub chain_want_no_fault : {T P : Type 0} → IsErrOf {T = T} (Err causes.Memory) causes.Disk → P
+chain_want_no_fault is = cc
+
+pub wrong_no_fault : {T P : Type 0} (page : ℕ) → IsErrOf {T = T} (Err (causes.NotDatabase page)) causes.Disk → P
+wrong_no_fault page is = cc
+
+pub same_fault : {T U E : Type 0} (cause e : E) → IsErrOf {T = T} (Err cause) e → IsErrOf {T = U} (Err cause) e
+same_fault {E = E} cause e is = let same : cause ≡ e = cc in ap (λ (x : E). Err x) same

@@ -9,11 +9,11 @@ use Rattle.afl_outside.specs.Disk.{DiskState, DiskGoesOn, Elapses, Follows, writ
 use Rattle.afl_outside.specs.Lemmas.TornLaws.{Torn-written}
 use Rattle.afl_outside.specs.declared.source.Failed.{Failed}
 use Rattle.page_chain.specs.Places.{IsNone, KeepsPages}
-use Rattle.page_chain.specs.Pages.{page_size, page_at, padded, piece_of, AreDistinct}
+use Rattle.page_chain.specs.Pages.{page_size, page_at, padded, piece_of, AreDistinct, HoldsPieces}
 use Rattle.page_chain.specs.Chains.{content_size, chain_piece}
 use Rattle.page_chain.specs.Inner.Runs.{OnlyWrites, Sees}
 use Rattle.page_chain.proofs.Kept.{size_is, keeps_self, keeps_on, keeps_more, one_of, torn_keeps, page_written, page_kept}
-use Rattle.page_chain.proofs.RunLemmas.{map_some, writes_once}
+use Rattle.page_chain.proofs.RunLemmas.{map_some, writes_once, sees_more}
 
 -- a page that was written stands there, and also where the call failed no other page was touched
 pub wrote_page : (page at : ℕ) (piece : List ℕ) (old new : DiskState) (result : Result (Unit {0}) Failed) → at ≡ 4096 * page → length piece ≡ page_size → Writes at piece old new result
@@ -50,6 +50,13 @@ pub wrote_torn : (pages : List ℕ) (piece : ℕ → List ℕ) (i page : ℕ) (x
 wrote_torn pages piece i page x y z within is so_far more =
     keeps_on pages x y z so_far.keeps (keeps_more (page ∷ []) pages y z (λ number none. one_of pages i page number within is none) more)
 
+-- all pages were written
+pub wrote_all : (pages : List ℕ) (piece : ℕ → List ℕ) (i : ℕ) (a b : DiskState) → length pages ≤ i → Sees a b (WroteSoFar pages piece i)
+    → Sees a b (λ seen now. KeepsPages pages seen now × HoldsPieces page_size now pages piece)
+wrote_all pages piece i a b all so_far =
+    sees_more a b (WroteSoFar pages piece i) (λ seen now. KeepsPages pages seen now × HoldsPieces page_size now pages piece)
+    (λ x y h. (h.keeps, λ k low. h.there k (omega (arith, low, all)))) so_far
+
 pub wrote_more : (pages : List ℕ) (piece : ℕ → List ℕ) (i page : ℕ) (x y z : List ℕ) → AreDistinct pages → ((k : ℕ) → length (piece k) ≡ page_size) → i < length pages → slice_index pages i ≡ page
     → WroteSoFar pages piece i x y → KeepsPages (page ∷ []) y z → page_at page_size z page ≡ piece i → WroteSoFar pages piece (i + 1) x z
 wrote_more pages piece i page x y z distinct sizes within is so_far more here = record {
@@ -83,6 +90,9 @@ wrote_there page at n old new past since before now place size only same crash t
     writes_once (page ∷ []) old new past since before now only same (λ c left. let h = crash c left in (h.0, h.1, torn_keeps page at n h.0 c place size h.2)) time
 
 -- what is left of the bytes behind one piece more
+pub first_rest : (room : ℕ) (bytes : List ℕ) → bytes ≡ drop (0 * room) bytes
+first_rest room bytes = let none : 0 ≡ 0 * room = omega arith in ap (λ (n : ℕ). drop n bytes) none
+
 pub next_rest : (n room i : ℕ) (rest rest' bytes : List ℕ) → n ≡ room → rest' ≡ drop n rest → rest ≡ drop (i * room) bytes → rest' ≡ drop ((i + 1) * room) bytes
 next_rest n room i rest rest' bytes size left so_far =
     let one : (i + 1) * room ≡ i * room + 1 * room = add-mul i 1 room in

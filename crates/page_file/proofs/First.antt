@@ -134,13 +134,17 @@ page_zeroed page body file least most is = record {
   zeros = λ k low. is.rest (4096 * page + k) (omega arith);
 }
 
-zero_bytes : (page : ℕ) (file : List ℕ) → IsZeroed page file → page_at 4096 file page ≡ replicate 4096 0
-zero_bytes page file zero_ = same_number_lists (page_at 4096 file page) (replicate 4096 0)
-    (omega (arith, zero_.is_page.within, length-take 4096 (drop (4096 * page) file), length-drop (4096 * page) file, length-replicate {A = ℕ} 4096 0))
-    (λ k low. each k (omega (arith, low, length-take 4096 (drop (4096 * page) file))))
+zeros_page : (size page : ℕ) (file : List ℕ) → size * page + size ≤ length file → ((k : ℕ) → k < size → slice_index file (size * page + k) ≡ 0) → page_at size file page ≡ replicate size 0
+zeros_page size page file within zeros = same_number_lists (page_at size file page) (replicate size 0) (long ∙ sym (length-replicate {A = ℕ} size 0)) (λ k low. each k (omega (arith, low, long)))
   where
-    each : (k : ℕ) → k < 4096 → slice_index (page_at 4096 file page) k ≡ slice_index (replicate 4096 0) k
-    each k low = get_or-take 4096 (drop (4096 * page) file) k 0 low ∙ get_or-drop (4096 * page) file k 0 ∙ zero_.zeros k low ∙ sym (get_or-replicate 4096 k 0 0 low)
+    long : length (page_at size file page) ≡ size
+    long = omega (arith, within, length-take size (drop (size * page) file), length-drop (size * page) file)
+
+    each : (k : ℕ) → k < size → slice_index (page_at size file page) k ≡ slice_index (replicate size 0) k
+    each k low = get_or-take size (drop (size * page) file) k 0 low ∙ get_or-drop (size * page) file k 0 ∙ zeros k low ∙ sym (get_or-replicate size k 0 0 low)
+
+zero_bytes : (page : ℕ) (file : List ℕ) → IsZeroed page file → page_at 4096 file page ≡ replicate 4096 0
+zero_bytes page file zero_ = zeros_page 4096 page file (omega (arith, zero_.is_page.within)) zero_.zeros
 
 -- one page whose link is 0
 abbrev Followed : Bool → ℕ → Result (List ℕ) ℕ

@@ -94,3 +94,9 @@ as_before slots later old new before now sound root records still honest = go ol
     go : (o : Option (List ℕ)) → IfSome o (λ seen. IsSound slots seen before → (s : List ℕ) × (new.seen ≡ Some s) × IsSound later s now) → IfSome o (λ seen. IsSound slots seen before → (c : List ℕ) → now c → OpensAs slots.current slots.records c)
     go None a = tt
     go (Some seen) a = λ was c left. let kept = a was in each kept.0 c kept.2 left
+
+-- of the other outcome nothing is said
+pub none_owed : (o : Option (List ℕ)) (slots : Slots) (before : List ℕ → Type 0) (pages : List ℕ)
+    → IfSome o (λ seen. IsSound slots seen before → (bytes : List ℕ) → ((d : List ℕ) → before d → HoldsChain page_size d pages bytes) → Unit {0})
+none_owed None slots before pages = tt
+none_owed (Some seen) slots before pages = λ sound bytes holds. tt

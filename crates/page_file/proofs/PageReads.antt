@@ -1,9 +1,10 @@
 -- A page that was read.
-use Rattle.std.proofs.Common.{◌≡◌, inr, ⊎_elim, ℕ, ◌+◌, ◌*◌, List, length, take, drop, slice_index, ◌==◌, Bool, false, MatchBool, Option, IfSome, sym, ◌∙◌, ap, subst, arith}
+use Rattle.std.proofs.Common.{◌≡◌, ◌⊎◌, inr, ⊎_elim, ℕ, ◌+◌, ◌*◌, List, length, take, drop, slice_index, ◌==◌, Bool, false, IsTrue, MatchBool, Option, IfSome, sym, ◌∙◌, ap, subst, arith}
 use Rattle.std.proofs.lemmas.List.{get_or-take, get_or-drop}
-use Rattle.std.proofs.lemmas.Bool.{cases_eq}
+use Rattle.std.proofs.lemmas.Bool.{cases_eq, false≢true}
 use Rattle.std.proofs.lemmas.Bool.Decides.{nat_tests}
 use Rattle.page_chain.proofs.Moments.{moment_at}
+use Rattle.page_chain.specs.Counts.{Rose}
 use Rattle.page_chain.specs.Disk.{ReadsAt, DiskState}
 use Rattle.page_chain.specs.Puts.{OnlySyncs}
 use Rattle.page_chain.proofs.PutLemmas.{goes_twice, if_some}
@@ -40,6 +41,11 @@ pub page_told : (number count : ℕ) (page : List ℕ) (seen : Option (List ℕ)
     → IfSome seen (λ file. MatchBool (count == 4096) (HasPage number page file) (CutsPage number file))
 page_told number count page seen size read = if_some seen (λ file. ReadsAt file (number * 4096) count page) (λ file. MatchBool (count == 4096) (HasPage number page file) (CutsPage number file))
     (λ file told. page_read number count page file size told) read
+
+-- a call that failed, and not by a fault, found no memory
+pub want_left : (a b w v x y : ℕ) (risen : Bool) → x ≡ a → y ≡ b → (Rose x y → IsTrue risen) → risen ≡ false → Rose a b ⊎ Rose w v → Rose w v
+want_left a b w v x y risen before now told none cause =
+    ⊎_elim (λ fault. absurd (false≢true (sym none ∙ told (omega (arith, before, now, fault))))) (λ want. want) cause
 
 -- two runs of calls that write nothing
 pub syncs_twice : (a b c : DiskState) (past between since : ℕ → List ℕ → Type 0) (before mid now : List ℕ → Type 0) → OnlySyncs (moment_at a past before) (moment_at b between mid) → OnlySyncs (moment_at b between mid) (moment_at c since now) → OnlySyncs (moment_at a past before) (moment_at c since now)

@@ -7,6 +7,13 @@ use Rattle.std.proofs.lemmas.Bool.{lt-ltb}
 use Rattle.std.proofs.lemmas.List.{take_more, map-append, length-map, length-take}
 use Rattle.schema_grammar.specs.SchemaBytes.{separator}
 
+-- what was written, and more behind it
+pub ended : (out mid x y : List ℕ) → mid ≡ out ++ x → mid ++ y ≡ out ++ (x ++ y)
+ended out mid x y e = ap (λ l. l ++ y) e ∙ append_assoc out x y
+
+pub more : (out mid after x y : List ℕ) → mid ≡ out ++ x → after ≡ mid ++ y → after ≡ out ++ (x ++ y)
+more out mid after x y e f = f ∙ ended out mid x y e
+
 -- one more text behind others
 joined_more : (c : ℕ) (x : List ℕ) (xs : List (List ℕ)) (y : List ℕ) → join_with_byte c ((x ∷ xs) ++ y ∷ []) ≡ join_with_byte c (x ∷ xs) ++ c ∷ y
 joined_more c x [] y = refl

@@ -1,4 +1,5 @@
-mod Joined
+pub mod Joined
+mod Meanings
 mod Numbers
 pub mod RuleLemmas
 mod RulesHold

@@ -15,7 +15,8 @@ use Rattle.schema_grammar.specs.declared.shape_text.AttrText.{AttrText}
 use Rattle.schema_grammar.specs.declared.shape_text.DimText.{DimText}
 use Rattle.schema_grammar.specs.declared.kinds.TypeKind.TheVariants.{BoundsOrder, ZeroChunk, OverlapTooLarge}
 use Rattle.schema_grammar.specs.Rules.{rule, first_broken, attr_rules, attrs_rules, dim_rules, dims_rules, whole_rules, rules, attribute_of, dimension_of, schema_of, Means}
-use Rattle.schema_grammar.proofs.RuleLemmas.{AllHold, all_hold, holds_both, or_else, broken_then}
+use Rattle.schema_grammar.proofs.Meanings.{dims_means, parts_same, whole_left}
+use Rattle.schema_grammar.proofs.RuleLemmas.{AllHold, all_hold, holds_both}
 
 both_true : (a b : Bool) → (a && b) ≡ true → (a ≡ true) × (b ≡ true)
 both_true true b e = (refl, e)
@@ -129,20 +130,7 @@ pub parts_valid : (t : SchemaText) (texts : List AttrText) (dims : List DimText)
     → Means (dims_rules (attribute_names names) [] dims) (map dimension_of dims) (Ok dimensions)
     → first_broken (whole_rules attributes dimensions t.brackets) ≡ None
     → IsValid (record { attributes = attributes; dimensions = dimensions })
-parts_valid t texts dims names attributes dimensions p q r (a, m) (d, n) w =
-    let schema = schema_of t in
-    let same_attributes : attributes ≡ schema.attributes = m ∙ ap (map attribute_of) p in
-    let same_dimensions : dimensions ≡ schema.dimensions = n ∙ ap (map dimension_of) q in
-    let first : first_broken (attrs_rules [] t.attributes) ≡ None = ap (λ l. first_broken (attrs_rules [] l)) (sym p) ∙ a in
-    let second : first_broken (dims_rules (attribute_names schema.attributes) [] t.dimensions) ≡ None
-    = ap (λ l. first_broken (dims_rules (attribute_names l) [] t.dimensions)) (sym (r ∙ same_attributes)) ∙ ap (λ l. first_broken (dims_rules (attribute_names names) [] l)) (sym q) ∙ d in
-    let third : first_broken (whole_rules schema.attributes schema.dimensions t.brackets) ≡ None
-    = ap (λ l. first_broken (whole_rules l schema.dimensions t.brackets)) (sym same_attributes) ∙ ap (λ l. first_broken (whole_rules attributes l t.brackets)) (sym same_dimensions) ∙ w in
-    let both : first_broken (attrs_rules [] t.attributes ++ dims_rules (attribute_names schema.attributes) [] t.dimensions) ≡ None
-    = broken_then (attrs_rules [] t.attributes) (dims_rules (attribute_names schema.attributes) [] t.dimensions)
-    ∙ ap (λ o. or_else o (first_broken (dims_rules (attribute_names schema.attributes) [] t.dimensions))) first ∙ second in
-    let all : first_broken (rules t) ≡ None
-    = broken_then (attrs_rules [] t.attributes ++ dims_rules (attribute_names schema.attributes) [] t.dimensions) (whole_rules schema.attributes schema.dimensions t.brackets)
-    ∙ ap (λ o. or_else o (first_broken (whole_rules schema.attributes schema.dimensions t.brackets))) both ∙ third in
-    subst (λ l. IsValid (record { attributes = l; dimensions = dimensions })) (sym same_attributes)
-    (subst (λ l. IsValid (record { attributes = schema.attributes; dimensions = l })) (sym same_dimensions) (rules_valid t all))
+parts_valid t texts dims names attributes dimensions p q r given h w =
+    let there = dims_means t texts attributes p given names dims (Ok dimensions) r q h in
+    subst IsValid (sym (parts_same t texts attributes p given dimensions there.1))
+    (rules_valid t (whole_left t texts attributes p given dimensions there ∙ w))

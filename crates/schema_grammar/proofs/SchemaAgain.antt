@@ -1,5 +1,5 @@
 -- The text of a schema is read as the schema.
-use Rattle.std.proofs.Common.{◌≡◌, ◌≢◌, ℕ, suc, ◌*◌, ◌≤◌, true, ◌&&◌, List, [], ◌∷◌, map, length, drop, Some, is_some, refl, sym, ap, subst, ◌∙◌, arith}
+use Rattle.std.proofs.Common.{◌≡◌, ◌≢◌, ℕ, suc, ◌*◌, ◌≤◌, true, ◌&&◌, List, [], ◌∷◌, map, length, drop, Some, is_some, Result, Ok, Err, IfOk, OnOk, refl, sym, ap, subst, ◌∙◌, arith}
 use Rattle.std.specs.Prelude.{nat_le, unsigned_abs, unwrap_or}
 use Rattle.std.specs.List.{All, list_all, AllByRecursion}
 use Rattle.std.proofs.lemmas.Bool.{and_parts, leb-true}
@@ -13,6 +13,7 @@ use Rattle.afl_lexer.specs.Kind.TheVariants.{Int64, Str, Bool as Truth}
 use Rattle.afl_lexer.specs.Attribute.{Attribute}
 use Rattle.afl_lexer.specs.Dimension.{Dimension}
 use Rattle.afl_lexer.specs.Schema.{Schema}
+use Rattle.afl_lexer.specs.declared.Memory.{Memory}
 use Rattle.afl_lexer.specs.Lexemes.{Placed, lexeme_of}
 use Rattle.afl_lexer.specs.declared.token.Token.{Token}
 use Rattle.afl_lexer.specs.Tokens.{AreTokens}
@@ -236,3 +237,17 @@ read_as s named_attributes named_dimensions v =
     let text : spelled (shape_marks t []) ≡ schema_bytes s = shape_spelled t [] ∙ append-nil (shape_bytes t) ∙ sym (same_bytes s) in
     let read = read_again (shape_marks t []) (shape_apart t [] printable tt) in
     subst (λ bytes. IsReadAs bytes s) text (read_marks s v t refl printable read.0 read.1 read.2)
+
+-- the same of the parts, as a call writes them
+pub printed_reads : (s : Schema) (answer : Result (List ℕ) Memory) (attributes : List Attribute) (dimensions : List Dimension)
+    → attributes ≡ s.attributes → dimensions ≡ s.dimensions
+    → IfOk answer (λ text. text ≡ parts_bytes (map attribute_bytes attributes) (map dimension_bytes dimensions))
+    → OnOk answer (All (λ (a : Attribute). IsName a.name) attributes) → OnOk answer (All (λ (d : Dimension). IsName d.name) dimensions)
+    → IsValid s → IfOk answer (λ text. IsReadAs text s)
+printed_reads s (Err fault) attributes dimensions p q e f g v = tt
+printed_reads s (Ok text) attributes dimensions p q e f g v =
+    let same : text ≡ schema_bytes s
+    = e ∙ ap (λ l. parts_bytes (map attribute_bytes l) (map dimension_bytes dimensions)) p
+    ∙ ap (λ l. parts_bytes (map attribute_bytes s.attributes) (map dimension_bytes l)) q in
+    subst (λ bytes. IsReadAs bytes s) (sym same)
+    (read_as s (subst (All (λ (a : Attribute). IsName a.name)) p f) (subst (All (λ (d : Dimension). IsName d.name)) q g) v)

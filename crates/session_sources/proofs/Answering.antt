@@ -16,7 +16,7 @@ use Rattle.session_sources.specs.Inner.Marking.{answer_of, marks_after}
 abbrev pub with_asked : ℕ → ArrayVec ℕ → Marks → Marks
 with_asked number at marks = record marks { asked = marks.asked ++ asks number at ∷ [] }
 
-same_le : (n : ℕ) → n ≤ n
+pub same_le : (n : ℕ) → n ≤ n
 same_le n = omega arith
 
 -- ---- no chunks of version 0

@@ -19,6 +19,7 @@ pub mod Rows
 pub mod Seeing
 pub mod Seen
 pub mod SharedList
+pub mod Standing
 pub mod States
 pub mod Worked
 pub mod WorkedList

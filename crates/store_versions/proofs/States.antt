@@ -1,5 +1,5 @@
 -- What a lean core stands for, entry by entry.
-use Rattle.std.proofs.Common.{◌≡◌, ◌∙◌, ℕ, ◌+◌, ◌≤◌, Bool, true, false, not, ◌&&◌, ◌||◌, nat_eq, List, [], ◌∷◌, ◌++◌, map, refl, ap, sym, subst, arith}
+use Rattle.std.proofs.Common.{◌≡◌, ◌∙◌, ℕ, ◌+◌, ◌-◌, ◌<◌, ◌≤◌, Bool, true, false, not, ◌&&◌, ◌||◌, nat_eq, List, [], ◌∷◌, ◌++◌, map, refl, ap, sym, subst, arith}
 use Rattle.std.specs.Prelude.{nat_le}
 use Rattle.std.specs.List.{filter, list_all}
 use Rattle.std.proofs.lemmas.Bool.{and_from, leb-true, le-leb}
@@ -33,6 +33,14 @@ parts : (names : Names) (catalogue free : List ℕ) (limit n : ℕ) (vs ws : Lis
     ◌≡◌ {A = Core} (record { names = names; pages = vs; catalogue = catalogue; pins = ps; free = free; limit = limit; entries = n })
     (record { names = names; pages = ws; catalogue = catalogue; pins = qs; free = free; limit = limit; entries = n })
 parts names catalogue free limit n vs ws ps qs v p = λ i. record { names = names; pages = v i; catalogue = catalogue; pins = p i; free = free; limit = limit; entries = n }
+
+-- ---- room
+
+pub room_left : (capacity len now count room : ℕ) → capacity - len ≡ room → now ≡ capacity → count ≤ len + 1 → room ≤ (now - count) + 1
+room_left capacity len now count room e same more = omega (arith, e, same, more)
+
+pub room_there : (capacity len room : ℕ) → capacity - len ≡ room → 0 < room → len < capacity
+room_there capacity len room e some = omega (arith, e, some)
 
 -- ---- the beginning
 

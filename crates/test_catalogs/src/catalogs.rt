@@ -20,15 +20,9 @@ pub(crate) fn push_spelling(out: &mut Told, bytes: Result<Bytes, Memory>) {
     }
 }
 
-/// Adds at which byte the first wrong item begins.
-pub(crate) fn push_wrong(out: &mut Told, at: u64) {
-    out.word("wrong at ");
-    out.number(at);
-}
-
 fn push_bad(out: &mut Told, bad: BadCatalog) {
     match bad {
-        BadCatalog::At { at } => push_wrong(out, at),
+        BadCatalog::At { at } => out.count("wrong at ", at),
         BadCatalog::Memory => out.word("no memory"),
     }
 }
@@ -55,7 +49,7 @@ pub(crate) fn push_cuts(out: &mut Told, bytes: &[u8]) {
                 drop(catalog);
                 out.word("none");
             }
-            Err(BadCatalog::At { at }) => out.number(at),
+            Err(BadCatalog::At { at }) => out.count("", at),
             Err(BadCatalog::Memory) => out.word("none"),
         }
         out.word(" ");

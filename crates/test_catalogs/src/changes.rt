@@ -86,14 +86,10 @@ fn push_change(
     }
 }
 
-fn push_all(out: &mut Told, catalog: &Catalog)
+fn push_first_three(out: &mut Told, catalog: &Catalog)
     requires { catalog.now ≡ worked_catalog }
 {
     let alloc = catalog.arrays.allocator();
-    out.truth(
-        "the catalogue: ",
-        are(encode_catalog(alloc, catalog), &START),
-    );
     let change = create(alloc);
     push_change(
         out,
@@ -121,6 +117,12 @@ fn push_all(out: &mut Told, catalog: &Catalog)
         &NEXT_RECORD,
         &NEXT,
     );
+}
+
+fn push_last_three(out: &mut Told, catalog: &Catalog)
+    requires { catalog.now ≡ worked_catalog }
+{
+    let alloc = catalog.arrays.allocator();
     let change = write_none(alloc, b"A", true);
     push_change(out, catalog, "an insert: ", change, &NEXT_RECORD, &NEXT);
     push_change(
@@ -139,6 +141,18 @@ fn push_all(out: &mut Told, catalog: &Catalog)
         &CUT_RECORD,
         &CUT,
     );
+}
+
+fn push_all(out: &mut Told, catalog: &Catalog)
+    requires { catalog.now ≡ worked_catalog }
+{
+    let alloc = catalog.arrays.allocator();
+    out.truth(
+        "the catalogue: ",
+        are(encode_catalog(alloc, catalog), &START),
+    );
+    push_first_three(out, catalog);
+    push_last_three(out, catalog);
 }
 
 /// Adds of each kind of change whether its record, and the catalogue behind it, have the bytes that were spelled by hand.

@@ -2,7 +2,7 @@
 ghost use Rattle.std.specs.Prelude.{◌≤◌, IfOk};
 ghost use Rattle.chunk_map.specs.Entries.{AreRising};
 
-use crate::catalogs::{push_spelling, push_wrong};
+use crate::catalogs::push_spelling;
 use crate::told::Told;
 use cell_values::Memory;
 use chunk_map::{BadDirectory, Directory, decode_directory, encode_directory, replaced};
@@ -30,7 +30,7 @@ fn directory_in(alloc: Global, dims: u32, bytes: &[u8]) -> Result<Directory, Bad
 
 fn push_bad(out: &mut Told, bad: BadDirectory) {
     match bad {
-        BadDirectory::At { at } => push_wrong(out, at),
+        BadDirectory::At { at } => out.count("wrong at ", at),
         BadDirectory::Memory => out.word("no memory"),
     }
 }

@@ -19,31 +19,23 @@ fn push_entry(out: &mut Told, entry: &DirEntry) {
     out.word("  chunk ");
     let told = push_counts(&mut out.text, entry.at.as_slice());
     out.note(told);
-    out.word(": ");
-    out.number(entry.length);
-    out.word(" bytes, commit ");
-    out.number(entry.birth);
-    out.word(", pages");
-    push_numbers(out, &entry.pages);
+    out.count(": ", entry.length);
+    out.count(" bytes, commit ", entry.birth);
+    push_numbers(out, ", pages", &entry.pages);
 }
 
 fn push_version(out: &mut Told, number: u32, at: &BlobAt, directory: &Directory) {
-    out.word(" version ");
-    out.number(u64::from(number));
-    out.word(": ");
-    out.number(at.length);
-    out.word(" bytes, pages");
-    push_numbers(out, &at.pages);
+    out.count(" version ", u64::from(number));
+    out.count(": ", at.length);
+    push_numbers(out, " bytes, pages", &at.pages);
     for entry in directory.entries.as_slice() {
         push_entry(out, entry);
     }
 }
 
 fn push_array(out: &mut Told, array: &CatalogArray, row: &List<Directory>) {
-    out.word("array ");
-    out.name(array.entry.name.as_slice());
-    out.word(", next ");
-    out.number(u64::from(array.entry.next));
+    out.name("array ", &array.entry.name);
+    out.count(", next ", u64::from(array.entry.next));
     out.word("\n");
     for (place, number) in array.entry.versions.as_slice().iter().enumerate() {
         if let (Some(at), Some(directory)) = (array.directories.get(place), row.get(place)) {
@@ -53,11 +45,9 @@ fn push_array(out: &mut Told, array: &CatalogArray, row: &List<Directory>) {
 }
 
 fn push_found(out: &mut Told, found: &Found) {
-    out.word("catalogue in pages");
-    push_numbers(out, &found.chain);
+    push_numbers(out, "catalogue in pages", &found.chain);
     for pages in found.logged.as_slice() {
-        out.word("record in pages");
-        push_numbers(out, pages);
+        push_numbers(out, "record in pages", pages);
     }
     for (array, row) in found
         .catalog

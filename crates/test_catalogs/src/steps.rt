@@ -29,17 +29,9 @@ fn push_change(out: &mut Told, core: &Core, change: &Change, used: &Used) -> Res
     requires { IsTrue (names_allow core.now.names change.now) }
 {
     let pages = fresh_pages(core, change, used)?;
-    out.word("a commit, fresh pages:");
-    push_numbers(out, &pages);
+    push_numbers(out, "a commit, fresh pages:", &pages);
     drop(pages);
     push_left(out, &core.names, change)
-}
-
-/// Adds which session pins or unpins.
-fn push_session(out: &mut Told, session: u32, what: &str) {
-    out.word("session ");
-    out.number(u64::from(session));
-    out.word(what);
 }
 
 /// Adds what an entry is.
@@ -47,8 +39,14 @@ fn push_entry(out: &mut Told, core: &Core, entry: &Entry) -> Result<(), Memory>
     requires { IsTrue (core_allows core.now entry.now) }
 {
     match entry {
-        Entry::Pin { session } => push_session(out, *session, " pins\n"),
-        Entry::Unpin { session } => push_session(out, *session, " unpins\n"),
+        Entry::Pin { session } => {
+            out.count("session ", u64::from(*session));
+            out.word(" pins\n");
+        }
+        Entry::Unpin { session } => {
+            out.count("session ", u64::from(*session));
+            out.word(" unpins\n");
+        }
         Entry::Commit { change, used, .. } => push_change(out, core, change, used)?,
         Entry::Reap => out.word("a reap\n"),
     }

@@ -6,43 +6,35 @@ use event_core::{Core, CorePin, VersionPages};
 use logical_plan::Names;
 use version_reaper::{PageSet, live};
 
-/// Adds numbers, each behind a space, and ends the line.
-pub(crate) fn push_numbers(out: &mut Told, numbers: &List<u32>) {
+/// Adds a text, numbers behind it, each behind a space, and ends the line.
+pub(crate) fn push_numbers(out: &mut Told, word: &str, numbers: &List<u32>) {
+    out.word(word);
     for number in numbers.as_slice() {
-        out.word(" ");
-        out.number(u64::from(*number));
+        out.count(" ", u64::from(*number));
     }
     out.word("\n");
 }
 
 pub(crate) fn push_names(out: &mut Told, names: &Names) {
     for array in names.arrays.as_slice() {
-        out.word("  array ");
-        out.name(array.name.as_slice());
-        out.word(", next ");
-        out.number(u64::from(array.next));
-        out.word(", versions:");
-        push_numbers(out, &array.versions);
+        out.name("  array ", &array.name);
+        out.count(", next ", u64::from(array.next));
+        push_numbers(out, ", versions:", &array.versions);
     }
 }
 
 fn push_versions(out: &mut Told, versions: &[VersionPages]) {
     for version in versions {
-        out.word("  version ");
-        out.name(version.name.as_slice());
-        out.word("@");
-        out.number(u64::from(version.version));
-        out.word(", pages:");
-        push_numbers(out, &version.pages);
+        out.name("  version ", &version.name);
+        out.count("@", u64::from(version.version));
+        push_numbers(out, ", pages:", &version.pages);
     }
 }
 
 fn push_pins(out: &mut Told, pins: &[CorePin]) {
     for pin in pins {
-        out.word("pin of session ");
-        out.number(u64::from(pin.session));
-        out.word(" at place ");
-        out.number(pin.place);
+        out.count("pin of session ", u64::from(pin.session));
+        out.count(" at place ", pin.place);
         out.word(", which keeps\n");
         push_names(out, &pin.names);
         push_versions(out, pin.pages.as_slice());
@@ -85,8 +77,7 @@ fn push_live(out: &mut Told, core: &Core) -> Result<(), Memory> {
     out.word("live:");
     for page in 1..core.limit {
         if set.has(page) {
-            out.word(" ");
-            out.number(u64::from(page));
+            out.count(" ", u64::from(page));
         }
     }
     drop(set);
@@ -95,16 +86,13 @@ fn push_live(out: &mut Told, core: &Core) -> Result<(), Memory> {
 }
 
 pub(crate) fn push_core(out: &mut Told, core: &Core) -> Result<(), Memory> {
-    out.word("entries ");
-    out.number(core.entries);
-    out.word(", limit ");
-    out.number(u64::from(core.limit));
+    out.count("entries ", core.entries);
+    out.count(", limit ", u64::from(core.limit));
     out.word("\n");
     push_names(out, &core.names);
     push_versions(out, core.pages.as_slice());
     push_pins(out, core.pins.as_slice());
     push_live(out, core)?;
-    out.word("free:");
-    push_numbers(out, &core.free);
+    push_numbers(out, "free:", &core.free);
     Ok(())
 }

@@ -1,6 +1,6 @@
 //! A text that is told bit by bit.
 
-use cell_values::Memory;
+use cell_values::{Memory, Name};
 use std::alloc::Global;
 use test_kit::{push_count, push_text, push_word};
 
@@ -28,13 +28,17 @@ impl Told {
         self.note(told);
     }
 
-    pub(crate) fn number(&mut self, number: u64) {
+    /// Adds a text, and a number behind it.
+    pub(crate) fn count(&mut self, word: &str, number: u64) {
+        self.word(word);
         let told = push_count(&mut self.text, number);
         self.note(told);
     }
 
-    pub(crate) fn name(&mut self, name: &[u8]) {
-        let told = push_text(&mut self.text, name);
+    /// Adds a text, and a name behind it.
+    pub(crate) fn name(&mut self, word: &str, name: &Name) {
+        self.word(word);
+        let told = push_text(&mut self.text, name.as_slice());
         self.note(told);
     }
 

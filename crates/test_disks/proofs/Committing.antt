@@ -1,11 +1,11 @@
 -- What a commit leaves to sessions.
-use Rattle.std.proofs.Common.{◌≡◌, ◌∙◌, ℕ, Bool, true, false, ◌&&◌, if◌then◌else◌, nat_eq, List, [], ◌∷◌, Option, None, Some, IfSome, Result, Ok, Err, IsTrue, refl, ap, sym, subst}
+use Rattle.std.proofs.Common.{◌≡◌, ℕ, Bool, true, false, ◌&&◌, [], ◌∷◌, Option, Some, IfSome, Result, Ok, Err, refl, ap, sym, subst}
 use Rattle.afl_outside.specs.Disk.{DiskState}
 use Rattle.array_geom.specs.declared.chunk.Changed.{Changed}
 use Rattle.plan_changes.specs.declared.change.Change.{Change}
 use Rattle.plan_changes.specs.Stored.{HasItsNames}
 use Rattle.plan_changes.specs.Typed.{IsTypedFor}
-use Rattle.event_core.specs.declared.entry.Entry.TheVariants.{Commit, Reap}
+use Rattle.event_core.specs.declared.entry.Entry.TheVariants.{Commit}
 use Rattle.event_core.specs.declared.entry.Used.{Used}
 use Rattle.event_core.specs.Allowed.{is_pinned}
 use Rattle.event_core.specs.History.{names_at, pin_before}
@@ -22,8 +22,8 @@ use Rattle.array_store.specs.Left.{IsLeft, reaped_if, tried_now}
 use Rattle.store_state.specs.Calls.{NotesFault}
 use Rattle.store_state.specs.Standings.{Standing}
 use Rattle.array_store.specs.Steps.{sealed_ledger}
-use Rattle.test_disks.specs.declared.stores.holds.Hold.{Hold}
-use Rattle.test_disks.specs.declared.stores.holds.Hold.TheVariants as hold
+use Rattle.test_quiet.specs.declared.holds.Hold.{Hold}
+use Rattle.test_quiet.specs.declared.holds.Hold.TheVariants as hold
 use Rattle.test_quiet.specs.declared.quiet_disk.QuietDisk.{QuietDisk}
 use Rattle.test_disks.specs.Holds.{IsHold, IsPinOf, LeavesAll, LeavesOthers, LeavesTried}
 use Rattle.test_quiet.specs.Quiet.{quiet_moment}

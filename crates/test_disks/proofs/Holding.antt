@@ -1,5 +1,5 @@
 -- What sessions have of a ledger, over one more entry and one more note.
-use Rattle.std.proofs.Common.{◌≡◌, ◌∙◌, ℕ, Bool, true, false, not, ◌&&◌, ◌||◌, if◌then◌else◌, nat_eq, nat_lt, List, [], ◌∷◌, ◌++◌, length, reverse, Option, None, Some, IsTrue, refl, ap, sym, subst, inl, inr, arith}
+use Rattle.std.proofs.Common.{◌≡◌, ◌∙◌, ℕ, Bool, true, false, not, ◌&&◌, ◌||◌, if◌then◌else◌, nat_eq, nat_lt, List, [], ◌∷◌, ◌++◌, length, reverse, Option, None, Some, refl, ap, sym, subst, inl, inr, arith}
 use Rattle.std.specs.List.{list_any}
 use Rattle.std.proofs.lemmas.Bool.{cases_lt, eq-eqb, or_from}
 use Rattle.std.proofs.lemmas.List.Folds.{list_any-append}
@@ -19,8 +19,8 @@ use Rattle.store_ledger.specs.Ledger.{LedgerState, IsOpenPin, has_note, has_unde
 use Rattle.store_ledger.proofs.Pins.{one_more}
 use Rattle.store_state.specs.Calls.{NotesFault}
 use Rattle.store_state.specs.Standings.{Standing, with_entries as store_entries}
-use Rattle.test_disks.specs.declared.stores.holds.Hold.{Hold}
-use Rattle.test_disks.specs.declared.stores.holds.Hold.TheVariants as hold
+use Rattle.test_quiet.specs.declared.holds.Hold.{Hold}
+use Rattle.test_quiet.specs.declared.holds.Hold.TheVariants as hold
 use Rattle.test_disks.specs.Holds.{HasNoPins, IsHold, IsPinOf, IsUntried, LeavesAll, LeavesOthers}
 
 -- ---- one more entry

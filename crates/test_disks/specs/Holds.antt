@@ -4,8 +4,8 @@ use Rattle.plan_changes.specs.Stored.{AreStored}
 use Rattle.event_core.specs.Allowed.{is_pinned}
 use Rattle.store_ledger.specs.declared.pinned.Pinned.{Pinned}
 use Rattle.store_ledger.specs.Ledger.{LedgerState, IsOpenPin, history, is_noted, is_tried}
-use Rattle.test_disks.specs.declared.stores.holds.Hold.{Hold}
-use Rattle.test_disks.specs.declared.stores.holds.Hold.TheVariants as hold
+use Rattle.test_quiet.specs.declared.holds.Hold.{Hold}
+use Rattle.test_quiet.specs.declared.holds.Hold.TheVariants as hold
 
 -- the open pin of a session, whose names are stored ones
 pub record IsPinOf (ledger : LedgerState) (session : ℕ) (pinned : Pinned) : Type 0 where

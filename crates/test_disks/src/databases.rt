@@ -1,7 +1,7 @@
 //! Databases, and stores that are opened for one call and let go.
 
 use crate::readings::whole;
-use crate::stores::{Answer, let_go_store, once, opened};
+use crate::stores::{let_go_store, once, opened};
 use afl_outside::Disk;
 use array_store::Limits;
 use cell_values::{Bytes, Memory};
@@ -10,7 +10,7 @@ use std::alloc::Global;
 use std::thread::Threads;
 use store_state::ReadFault;
 use test_kit::{disk_of, made, of_format_one};
-use test_quiet::{QuietDisk, SilentDisk};
+use test_quiet::{Answer, QuietDisk, SilentDisk};
 
 /// How much the store may use that makes a database.
 const LIMITS: Limits = Limits {

@@ -1,4 +1,4 @@
-//! What programs of tests do with stores over disks in memory: databases, changes said in lines, and what is read of a store.
+//! What programs of tests do with stores that one of them has in hand: databases, steps of sessions, and what is read of a store.
 #![tactic(auto)]
 
 mod databases;
@@ -6,9 +6,10 @@ mod readings;
 mod stores;
 
 pub use databases::{answered, held_in, new_database, old_database, read_over, with_change};
-pub use readings::{add_read, named_leaf};
 pub use stores::{
-    Answer, Hold, Offer, SessionPair, Step, answer_of_pair, count_of, let_go_store, limits_of,
-    offer_over, opened, pair_of, pair_over, push_counts, push_numbered, step_of,
+    SessionPair, answer_of_pair, let_go_store, limits_of, opened, pair_over, push_counts,
 };
-pub use test_quiet::{QuietDisk, SilentDisk, Watch, push_costs};
+pub use test_quiet::{
+    Answer, Hold, Offer, QuietDisk, SilentDisk, Step, Watch, add_read, count_of, named_leaf,
+    offer_over, pair_of, push_costs, push_numbered, step_of,
+};

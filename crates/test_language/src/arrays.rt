@@ -1,10 +1,11 @@
 //! The texts of an array.
 
 use crate::schemas::schema_in;
+use crate::told::push_made;
 use cell_values::{Bytes, Cell, Datum, List, Memory, Row, Schema, coord_of};
 use result_print::{csv_plus, dcsv};
 use std::alloc::Global;
-use test_kit::{one_more, push_given};
+use test_kit::one_more;
 
 /// A cell that holds this text.
 fn row_at(alloc: Global, at: i64, text: &[u8]) -> Result<Row, Memory> {
@@ -27,8 +28,8 @@ fn push_rows(rows: &mut List<Row>, text: &str) -> Result<(), Memory> {
 
 fn push_array(out: &mut String, schema: &Schema, rows: &[Row]) -> Result<(), Memory> {
     let alloc = *out.allocator();
-    push_given(out, dcsv(alloc, schema, rows)?)?;
-    push_given(out, csv_plus(alloc, schema, rows)?)
+    let plain = push_made(out, dcsv(alloc, schema, rows));
+    plain.and(push_made(out, csv_plus(alloc, schema, rows)))
 }
 
 fn push_parts(out: &mut String, schema: &Schema, text: &str) -> Result<(), Memory> {

@@ -88,6 +88,5 @@ pub(crate) fn push_checked_line(out: &mut String, line: &[u8]) -> Result<(), Mem
         }
         None => push_word(out, "no arrays"),
     };
-    told?;
-    push_word(out, "\n")
+    told.and(push_word(out, "\n"))
 }

@@ -33,34 +33,36 @@ enum Table {
     Checking,
 }
 
-/// Adds a title, or what is told of another line. The table behind it is the answer.
-fn push_line(out: &mut String, table: Table, line: &[u8]) -> Result<Table, Memory> {
-    if line.starts_with(b"##".as_slice()) {
-        let title = from_utf8(line).unwrap_or("##");
-        push_words(out, &[title, "\n"])?;
-        return Ok(match title {
-            "### parsing" => Table::Parsing,
-            "### checking" => Table::Checking,
-            "### texts" => Table::Texts,
-            _ => table,
-        });
+/// The table whose lines stand behind a line, in this table.
+fn table_behind(table: Table, line: &[u8]) -> Table {
+    match from_utf8(line).unwrap_or("") {
+        "### parsing" => Table::Parsing,
+        "### checking" => Table::Checking,
+        "### texts" => Table::Texts,
+        _ => table,
     }
-    match table {
-        Table::Texts => push_text_line(out, from_utf8(line).unwrap_or("no text"))?,
-        Table::Parsing => push_parsed_line(out, line)?,
-        Table::Checking => push_checked_line(out, line)?,
-    }
-    Ok(table)
 }
 
-/// Prints what is told of a line. The table behind it is the answer.
-fn tell(rt: &(impl Print + AllocGlobal), table: Table, line: &[u8]) -> Result<Table> {
+/// Adds a title, or what is told of another line.
+fn push_line(out: &mut String, table: Table, line: &[u8]) -> Result<(), Memory> {
+    if line.starts_with(b"##".as_slice()) {
+        return push_words(out, &[from_utf8(line).unwrap_or("##"), "\n"]);
+    }
+    match table {
+        Table::Texts => push_text_line(out, from_utf8(line).unwrap_or("no text")),
+        Table::Parsing => push_parsed_line(out, line),
+        Table::Checking => push_checked_line(out, line),
+    }
+}
+
+/// Prints a title, or what is told of another line.
+fn tell(rt: &(impl Print + AllocGlobal), table: Table, line: &[u8]) -> Result<()> {
     let mut out = String::new(rt.alloc());
-    let next = push_line(&mut out, table, line);
+    let told = push_line(&mut out, table, line);
     let printed = print!(rt; "{out}");
     drop(out);
     printed?;
-    Ok(next?)
+    Ok(told?)
 }
 
 /// A line without the line feed at its end.
@@ -80,7 +82,9 @@ fn main(rt: HostRuntime) -> Result<()> {
         if input.read_until(b'\n', &mut line)? == 0 {
             break;
         }
-        table = tell(&rt, table, without_end(line.as_slice()))?;
+        let line = without_end(line.as_slice());
+        table = table_behind(table, line);
+        tell(&rt, table, line)?;
     }
     Ok(())
 }

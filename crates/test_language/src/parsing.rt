@@ -83,6 +83,5 @@ pub(crate) fn push_parsed_line(out: &mut String, line: &[u8]) -> Result<(), Memo
     let text = text_of(*out.allocator(), rest)?;
     let told = push_parsed(out, form, text.as_slice());
     drop(text);
-    told?;
-    push_word(out, "\n")
+    told.and(push_word(out, "\n"))
 }

@@ -2,7 +2,7 @@
 
 use afl_lexer::{SplitStep, Splitter};
 use cell_values::Memory;
-use test_kit::{push_text, push_word};
+use test_kit::{push_range, push_text, push_word, push_words};
 
 /// Adds a piece that ended: what it is, where it starts and ends, and its bytes.
 fn push_piece(out: &mut String, step: SplitStep, splitter: &Splitter) -> Result<(), Memory> {
@@ -13,18 +13,22 @@ fn push_piece(out: &mut String, step: SplitStep, splitter: &Splitter) -> Result<
         SplitStep::More => return Ok(()),
     };
     let (start, end, bytes) = splitter.piece();
-    write!(out, "{word} {start}-{end} ")?;
-    push_text(out, bytes)?;
-    push_word(out, "|")
+    let named = push_words(out, &[word, " "]);
+    let placed = push_range(out, start, end).and(push_word(out, " "));
+    let told = push_text(out, bytes).and(push_word(out, "|"));
+    named.and(placed).and(told)
 }
 
 /// Adds the pieces of a script, each with its place and a `|` behind it.
 pub(crate) fn push_pieces(out: &mut String, script: &[u8]) -> Result<(), Memory> {
     let mut splitter = Splitter::new(*out.allocator())?;
+    let mut told = Ok(());
     for &byte in script {
         let step = splitter.push(byte);
-        push_piece(out, step, &splitter)?;
+        told = told.and(push_piece(out, step, &splitter));
     }
     let step = splitter.finish();
-    push_piece(out, step, &splitter)
+    let told = told.and(push_piece(out, step, &splitter));
+    drop(splitter);
+    told
 }

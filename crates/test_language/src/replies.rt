@@ -1,58 +1,65 @@
 //! The texts of changes, listings and refusals.
 
 use crate::schemas::schema_in;
-use cell_values::{List, Memory};
+use crate::texts::front_of;
+use crate::told::push_made;
+use cell_values::{List, Memory, Schema};
 use logical_plan::{NameEntry, Names};
 use result_print::{
     Refusal, list_text, ok_line, refusal_line, show_text, stored_line, versions_text,
 };
 use std::alloc::Global;
-use test_kit::{name_of, push_given, push_word};
+use test_kit::{name_of, push_word};
 
-/// The numbers of a word such as `1,3`, and none of `-`.
-fn numbers_in(alloc: Global, word: &str) -> Result<List<u32>, Memory> {
-    let mut numbers = List::new(alloc);
+/// Adds the numbers of a word such as `1,3`, and none of `-`.
+fn push_numbers(numbers: &mut List<u32>, word: &str) -> Result<(), Memory> {
     for digits in word.split(',') {
         if let Ok(number) = digits.parse::<u32>() {
             numbers.push(number)?;
         }
     }
-    Ok(numbers)
+    Ok(())
 }
 
-/// The array of these words.
-fn entry_in(
-    alloc: Global,
-    name: &str,
-    next: &str,
-    versions: &str,
-    schema: &str,
-) -> Option<NameEntry> {
-    let name = name_of(alloc, name.as_bytes()).ok()?;
-    let versions = numbers_in(alloc, versions).ok()?;
-    let schema = schema_in(alloc, schema.as_bytes())?;
-    Some(NameEntry {
-        name,
-        schema,
-        next: next.parse::<u32>().unwrap_or(0),
-        versions,
-    })
+/// An array of this name and schema without versions, whose next number is that of a word.
+fn entry_of(alloc: Global, name: &str, next: &str, schema: Schema) -> Option<NameEntry> {
+    match name_of(alloc, name.as_bytes()) {
+        Ok(name) => Some(NameEntry {
+            name,
+            schema,
+            next: number_of(next),
+            versions: List::new(alloc),
+        }),
+        Err(Memory) => {
+            drop(schema);
+            None
+        }
+    }
 }
 
 /// The array of a text such as `A 4 1,3 <v:int64>[i=0:3,2,0]`: its name, its next number, its versions and its schema.
 fn array_in(alloc: Global, text: &str) -> Option<NameEntry> {
-    let (name, rest) = text.split_once(' ')?;
-    let (next, rest) = rest.split_once(' ')?;
-    let (versions, schema) = rest.split_once(' ')?;
-    entry_in(alloc, name, next, versions, schema)
+    let (name, rest) = front_of(text);
+    let (next, rest) = front_of(rest);
+    let (versions, schema) = front_of(rest);
+    let schema = schema_in(alloc, schema.as_bytes())?;
+    let mut entry = entry_of(alloc, name, next, schema)?;
+    match push_numbers(&mut entry.versions, versions) {
+        Ok(()) => Some(entry),
+        Err(Memory) => {
+            drop(entry);
+            None
+        }
+    }
 }
 
 fn push_entry(out: &mut String, entry: &NameEntry) -> Result<(), Memory> {
     let alloc = *out.allocator();
-    push_given(out, show_text(alloc, entry)?)?;
-    push_given(out, versions_text(alloc, entry)?)?;
-    push_given(out, stored_line(alloc, &entry.name, entry.next)?)?;
-    push_given(out, ok_line(alloc)?)
+    let shown = push_made(out, show_text(alloc, entry));
+    let versions = push_made(out, versions_text(alloc, entry));
+    let stored = push_made(out, stored_line(alloc, &entry.name, entry.next));
+    let done = push_made(out, ok_line(alloc));
+    shown.and(versions).and(stored).and(done)
 }
 
 /// Adds what is told of the array of a text.
@@ -88,36 +95,43 @@ pub(crate) fn push_list(out: &mut String, text: &str) -> Result<(), Memory> {
         Err(Memory) => Err(Memory),
     };
     drop(names);
-    push_given(out, list?)
+    push_made(out, list)
 }
 
 fn number_of(word: &str) -> u32 {
     word.parse::<u32>().unwrap_or(0)
 }
 
-/// The refusal of a text such as `full 3 1`.
-fn refusal_in(text: &str) -> Refusal {
-    let (word, counts) = text.split_once(' ').unwrap_or((text, ""));
+/// The refusal of a word.
+fn refusal_of(word: &str) -> Refusal {
     match word {
         "disk" => Refusal::Disk,
         "history" => Refusal::HistoryFull,
         "sequence" => Refusal::SequenceEnd,
+        _ => Refusal::Memory,
+    }
+}
+
+/// The refusal of a text such as `full 3 1`.
+fn refusal_in(text: &str) -> Refusal {
+    let (word, counts) = front_of(text);
+    let (needed, free) = front_of(counts);
+    match word {
         "damaged" => Refusal::Damaged {
             page: number_of(counts),
         },
-        "full" => {
-            let (needed, free) = counts.split_once(' ').unwrap_or((counts, ""));
-            Refusal::Full {
-                needed: number_of(needed),
-                free: number_of(free),
-            }
-        }
-        _ => Refusal::Memory,
+        "full" => Refusal::Full {
+            needed: number_of(needed),
+            free: number_of(free),
+        },
+        word => refusal_of(word),
     }
 }
 
 /// Adds the line of the refusal of a text.
 pub(crate) fn push_refusal(out: &mut String, text: &str) -> Result<(), Memory> {
-    let line = refusal_line(*out.allocator(), &refusal_in(text))?;
-    push_given(out, line)
+    let refusal = refusal_in(text);
+    let line = refusal_line(*out.allocator(), &refusal);
+    drop(refusal);
+    push_made(out, line)
 }

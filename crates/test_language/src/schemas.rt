@@ -1,21 +1,30 @@
 //! Schemas that are written as texts.
 ghost use Rattle.std.specs.Prelude.{◌≤◌, length};
 
+use crate::tokens::push_span;
 use afl_lexer::tokens;
 use cell_values::{Memory, Schema};
 use schema_grammar::{
     SchemaFault, SchemaText, ShapeFault, TypeKind, meaning, print_shape, schema_text, shape,
 };
 use std::alloc::Global;
-use test_kit::{push_given, push_word};
+use test_kit::{push_count, push_given, push_word, push_words};
 
 /// The syntax tree of a text's tokens from one on, and the token behind it.
 fn read(alloc: Global, text: &[u8], from: usize) -> Result<(SchemaText, usize), ShapeFault>
     requires { length text.now ≤ 1048576 }
 {
     match tokens(alloc, text) {
-        Ok(tokens) if from <= tokens.len() => shape(alloc, text, tokens.as_slice(), from),
-        _ => Err(ShapeFault::Memory),
+        Ok(tokens) => {
+            let read = if from <= tokens.len() {
+                shape(alloc, text, tokens.as_slice(), from)
+            } else {
+                Err(ShapeFault::Memory)
+            };
+            drop(tokens);
+            read
+        }
+        Err(_) => Err(ShapeFault::Memory),
     }
 }
 
@@ -48,7 +57,9 @@ fn rule_text(kind: TypeKind) -> &'static str {
 
 fn push_stop(out: &mut String, fault: ShapeFault) -> Result<(), Memory> {
     match fault {
-        ShapeFault::Unexpected { token } => Ok(write!(out, "stop at token {token}")?),
+        ShapeFault::Unexpected { token } => {
+            push_word(out, "stop at token ").and(push_count(out, token as u64))
+        }
         ShapeFault::Memory => push_word(out, "no tokens"),
     }
 }
@@ -70,8 +81,8 @@ fn push_meaning(out: &mut String, text: &[u8], shape: &SchemaText) -> Result<(),
             told
         }
         Err(SchemaFault::Rule { span, kind }) => {
-            write!(out, "at {}-{}: ", span.start, span.end)?;
-            push_word(out, rule_text(kind))
+            let placed = push_word(out, "at ").and(push_span(out, &span));
+            placed.and(push_words(out, &[": ", rule_text(kind)]))
         }
         Err(SchemaFault::Memory) => push_word(out, "no memory"),
     }
@@ -85,8 +96,8 @@ pub(crate) fn push_schema(out: &mut String, text: &[u8], from: usize) -> Result<
         Ok((shape, next)) => {
             let told = push_meaning(out, text, &shape);
             drop(shape);
-            told?;
-            Ok(write!(out, " before token {next}")?)
+            let parted = push_word(out, " before token ");
+            told.and(parted).and(push_count(out, next as u64))
         }
         Err(fault) => push_stop(out, fault),
     }

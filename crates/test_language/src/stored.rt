@@ -71,10 +71,13 @@ fn push_other(arrays: &mut List<NameEntry>, number: usize) -> Option<()>
 {
     let alloc = arrays.allocator();
     let text = format!(in alloc; "create array X{number} <v:int64>[i=0:2,2,0]").ok()?;
-    if text.len() > 64 {
-        return None;
-    }
-    push_stored(arrays, text.as_bytes(), 1, &[])
+    let stored = if text.len() > 64 {
+        None
+    } else {
+        push_stored(arrays, text.as_bytes(), 1, &[])
+    };
+    drop(text);
+    stored
 }
 
 /// Adds many arrays.

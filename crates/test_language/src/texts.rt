@@ -20,6 +20,11 @@ use test_kit::{bytes_of, push_word, push_words, text_of};
 /// How many bytes a statement may have.
 const LIMIT: usize = 1_048_576;
 
+/// The first word of a text, and what stands behind it.
+pub(crate) fn front_of(text: &str) -> (&str, &str) {
+    text.split_once(' ').unwrap_or((text, ""))
+}
+
 /// The bytes that a line stands for.
 fn script_of(alloc: Global, line: &str) -> Result<Bytes, Memory> {
     let text = text_of(alloc, line.as_bytes())?;
@@ -52,20 +57,26 @@ fn push_bytes(out: &mut String, word: &str, line: &str) -> Result<(), Memory> {
     told
 }
 
+/// Adds the answer to a line of these words.
+fn push_answer(out: &mut String, word: &str, rest: &str) -> Result<(), Memory> {
+    match word {
+        "schema" => {
+            let (from, text) = front_of(rest);
+            push_bytes(out, from, text)
+        }
+        "array" => push_array(out, rest),
+        "list" => push_list(out, rest),
+        "refusal" => push_refusal(out, rest),
+        word => push_bytes(out, word, rest),
+    }
+}
+
 /// Adds a line and its answer.
 pub(crate) fn push_text_line(out: &mut String, line: &str) -> Result<(), Memory> {
-    push_words(out, &["> ", line, "\n"])?;
-    if let Some((word, rest)) = line.split_once(' ') {
-        match word {
-            "schema" => {
-                let (from, text) = rest.split_once(' ').unwrap_or((rest, ""));
-                push_bytes(out, from, text)?;
-            }
-            "array" => push_array(out, rest)?,
-            "list" => push_list(out, rest)?,
-            "refusal" => push_refusal(out, rest)?,
-            word => push_bytes(out, word, rest)?,
-        }
-    }
-    push_word(out, "\n")
+    let begun = push_words(out, &["> ", line, "\n"]);
+    let told = match line.split_once(' ') {
+        Some((word, rest)) => push_answer(out, word, rest),
+        None => Ok(()),
+    };
+    begun.and(told).and(push_word(out, "\n"))
 }

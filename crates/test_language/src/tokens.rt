@@ -5,8 +5,10 @@ ghost use Rattle.afl_lexer.specs.Tokens.{IsTokenOf};
 use afl_lexer::{
     LexFault, LexKind, Symbol, Token, TokenKind, Word, name_value, text_value, tokens,
 };
-use cell_values::{Memory, Name};
-use test_kit::{push_code, push_given, push_integer, push_text, push_word, push_words};
+use cell_values::{Memory, Name, Span};
+use test_kit::{
+    push_code, push_count, push_integer, push_quoted, push_range, push_text, push_word, push_words,
+};
 
 fn word_text(word: Word) -> &'static str {
     match word {
@@ -57,6 +59,11 @@ fn fault_text(kind: LexKind) -> &'static str {
     }
 }
 
+/// Adds a place, as `3-5`.
+pub(crate) fn push_span(out: &mut String, span: &Span) -> Result<(), Memory> {
+    push_range(out, u64::from(span.start), u64::from(span.end))
+}
+
 /// Adds a name, and lets it go.
 fn push_name(out: &mut String, name: Name) -> Result<(), Memory> {
     let told = push_text(out, name.as_slice());
@@ -76,9 +83,10 @@ fn push_meaning(out: &mut String, text: &[u8], token: &Token) -> Result<(), Memo
         TokenKind::Word(word) => push_words(out, &["word ", word_text(word)]),
         TokenKind::Symbol(symbol) => push_word(out, symbol_text(symbol)),
         TokenKind::Text => {
-            push_word(out, "'")?;
-            push_given(out, text_value(alloc, text, token)?)?;
-            push_word(out, "'")
+            let value = text_value(alloc, text, token)?;
+            let told = push_quoted(out, value.as_slice());
+            drop(value);
+            told
         }
     }
 }
@@ -87,9 +95,10 @@ fn push_meaning(out: &mut String, text: &[u8], token: &Token) -> Result<(), Memo
 fn push_token(out: &mut String, bar: &str, text: &[u8], token: &Token) -> Result<(), Memory>
     requires { IsTokenOf text.now token.now }
 {
-    push_word(out, bar)?;
-    push_meaning(out, text, token)?;
-    Ok(write!(out, " {}-{}", token.span.start, token.span.end)?)
+    let barred = push_word(out, bar);
+    let told = push_meaning(out, text, token);
+    let placed = push_word(out, " ").and(push_span(out, &token.span));
+    barred.and(told).and(placed)
 }
 
 /// Adds the tokens of a text, each with its place, or where and why it stops to have any.
@@ -98,14 +107,19 @@ pub(crate) fn push_tokens(out: &mut String, text: &[u8]) -> Result<(), Memory>
 {
     match tokens(*out.allocator(), text) {
         Ok(found) => {
+            let mut told = Ok(());
             let mut bar = "";
             for token in found.as_slice() {
-                push_token(out, bar, text, token)?;
+                told = told.and(push_token(out, bar, text, token));
                 bar = " | ";
             }
-            Ok(())
+            drop(found);
+            told
         }
-        Err(LexFault::At { at, kind }) => Ok(write!(out, "at {at}: {}", fault_text(kind))?),
+        Err(LexFault::At { at, kind }) => {
+            let placed = push_word(out, "at ").and(push_count(out, u64::from(at)));
+            placed.and(push_words(out, &[": ", fault_text(kind)]))
+        }
         Err(LexFault::Memory) => push_word(out, "no memory"),
     }
 }

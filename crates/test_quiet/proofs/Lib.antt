@@ -1,1 +1,4 @@
+pub mod Checking
+pub mod Making
+pub mod ReadLemmas
 pub mod Untold

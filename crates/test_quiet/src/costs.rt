@@ -1,5 +1,6 @@
 //! What calls of a disk cost.
 
+use crate::answers::push_numbered;
 use crate::watch::Watch;
 use afl_outside::DeviceCall;
 use cell_values::Memory;
@@ -12,9 +13,11 @@ const PAGE: u64 = 4096;
 fn push_write(out: &mut String, at: u64, length: u64) -> Result<(), Memory> {
     let (page, place) = (at / PAGE, at % PAGE);
     if place == 0 && length == PAGE {
-        Ok(write!(out, " p{page}")?)
+        push_numbered(out, " p", page, "")
     } else {
-        Ok(write!(out, " p{page}+{place}:{length}")?)
+        push_numbered(out, " p", page, "+")
+            .and(push_numbered(out, "", place, ":"))
+            .and(push_count(out, length))
     }
 }
 
@@ -40,8 +43,7 @@ fn reads_in(calls: &[DeviceCall]) -> u64 {
 
 /// Adds how many reads there are, and then each write and each sync in order.
 fn push_calls(out: &mut String, calls: &[DeviceCall]) -> Result<(), Memory> {
-    push_count(out, reads_in(calls))?;
-    push_word(out, " reads;")?;
+    push_numbered(out, "", reads_in(calls), " reads;")?;
     for call in calls {
         push_call(out, call)?;
     }

@@ -2,7 +2,7 @@
 use Rattle.std.specs.Prelude.{◌≡◌, ◌≤◌, [], vec_capacity}
 use Rattle.snapshot_manager.specs.Seats.{IsIdle, IsSeatOf, seats_in_all}
 use Rattle.test_stores.specs.declared.runs.Run.{Run}
-use Rattle.test_disks.specs.Silent.{silent_moment}
+use Rattle.test_quiet.specs.Silent.{silent_moment}
 use Rattle.test_stores.specs.Visits.{IsUntold}
 use Rattle.test_stores.specs.Visitors.{IsVisitor}
 

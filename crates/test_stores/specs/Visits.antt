@@ -7,8 +7,8 @@ use Rattle.store_ledger.specs.Ledger.{is_noted, is_tried}
 use Rattle.snapshot_manager.specs.declared.seat.Seat.{Seat}
 use Rattle.snapshot_manager.specs.declared.shared.Shared.{Shared}
 use Rattle.snapshot_manager.specs.Seats.{HoldsNone, HoldsPin, IsIdle, IsSeatOf, ledger_seen, start}
-use Rattle.test_disks.specs.declared.stores.holds.Hold.{Hold}
-use Rattle.test_disks.specs.declared.stores.holds.Hold.TheVariants as hold
+use Rattle.test_quiet.specs.declared.holds.Hold.{Hold}
+use Rattle.test_quiet.specs.declared.holds.Hold.TheVariants as hold
 
 -- the disk that was opened isn't honest: so nothing is known of what it holds
 abbrev pub IsUntold : {D : Type 0} → (D → Moment) → Shared D → Type 0

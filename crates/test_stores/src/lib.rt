@@ -8,7 +8,7 @@ mod steps;
 mod tally;
 mod visitors;
 
-pub use runs::{Run, answer_line, push_finished, shared_database};
+pub use runs::{Run, answer_line, push_finished, seated};
 pub use seats::{taken, with_seat};
 pub use steps::commit_once;
 pub use tally::tallied;

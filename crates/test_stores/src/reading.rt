@@ -3,20 +3,19 @@ ghost use Rattle.std.specs.Prelude.{IfOk, IfSome};
 ghost use Rattle.cell_values.specs.Schemas.{IsValid};
 ghost use Rattle.store_state.specs.Calls.{IsLeafOf};
 ghost use Rattle.snapshot_manager.specs.Seats.{HoldsPin, IsIdle, IsSeatOf};
-ghost use Rattle.test_disks.specs.Cells.{IsRead};
+ghost use Rattle.test_quiet.specs.Cells.{IsRead};
 ghost use Rattle.test_stores.specs.Visits.{IsHeld, IsPinOf};
 
 use afl_outside::Disk;
 use array_geom::Chunk;
-use cell_values::{Bytes, List, Memory, Row};
+use cell_values::{Bytes, List, Memory};
 use logical_plan::Leaf;
-use result_print::dcsv;
 use snapshot_manager::{Seat, Shared};
 use std::alloc::Global;
 use std::sync::Wait;
 use store_ledger::Pinned;
 use store_state::ReadFault;
-use test_disks::{Answer, Hold, add_read, named_leaf};
+use test_quiet::{Answer, Hold, add_read, lines_of, named_leaf};
 
 /// The chunk at a place among those of a version; none past the last one.
 fn chunk_at<D: Disk, R: Wait>(
@@ -49,14 +48,6 @@ fn chunk_at<D: Disk, R: Wait>(
 
 /// How many chunks a version may have here.
 const CHUNKS: usize = 100;
-
-/// The rows of a version as text, behind its attributes' names.
-fn lines_of(alloc: Global, leaf: &Leaf, rows: List<Row>) -> Result<Bytes, ReadFault> {
-    match dcsv(alloc, &leaf.schema, rows.as_slice()) {
-        Ok(text) => Ok(text),
-        Err(Memory) => Err(ReadFault::Memory),
-    }
-}
 
 /// What a version holds under a pin: its attributes' names, and its cells in lines, chunk by chunk.
 fn cells<D: Disk, R: Wait>(

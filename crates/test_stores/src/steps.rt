@@ -4,7 +4,7 @@ ghost use Rattle.store_state.specs.At.{standing};
 ghost use Rattle.store_state.specs.Events.{events};
 ghost use Rattle.snapshot_manager.specs.Starts.{start_of};
 ghost use Rattle.snapshot_manager.specs.Seats.{HasTurn, HoldsNone, IsIdle, IsSameSeat, IsSeatOf, seen, start, store_of};
-ghost use Rattle.test_disks.specs.Offers.{IsOffer};
+ghost use Rattle.test_quiet.specs.Offers.{IsOffer};
 ghost use Rattle.test_stores.specs.Visits.{IsFree, IsHeld, IsPinOf, IsUntold, IsUntried};
 
 use afl_outside::Disk;
@@ -15,7 +15,7 @@ use std::alloc::Global;
 use std::sync::Wait;
 use std::thread::Threads;
 use store_ledger::{PinFault, Pinned};
-use test_disks::{Answer, Hold, Offer, offer_over};
+use test_quiet::{Answer, Hold, Offer, offer_over};
 
 /// A session that has no pin begins to have one.
 pub(crate) fn pin<D: Disk, R: Wait>(

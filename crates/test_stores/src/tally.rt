@@ -3,7 +3,7 @@
 use array_store::Store;
 use cell_values::Memory;
 use event_core::{Entry, let_go_entries};
-use test_disks::SilentDisk;
+use test_quiet::SilentDisk;
 
 /// How many of the entries are commits of a session.
 fn commits_of(entries: &[Entry], by: u32) -> u64 {

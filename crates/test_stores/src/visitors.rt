@@ -11,7 +11,7 @@ use std::alloc::Global;
 use std::mem::replace;
 use std::sync::Wait;
 use std::thread::Threads;
-use test_disks::{Answer, Hold, Step};
+use test_quiet::{Answer, Hold, Step};
 
 /// A session's seat, and what it has of the store.
 #[derive(Drop)]

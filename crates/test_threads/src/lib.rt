@@ -1,7 +1,9 @@
-//! Two sessions over a store that is shared, each on a thread of its own, beside a thread that reaps.
+//! Stores that sessions share, from their databases on: three sessions on one thread, or two, each on a thread of its own, beside one that reaps.
 #![tactic(auto)]
 
+mod starts;
 mod threads;
 mod whole;
 
+pub use starts::shared_database;
 pub use whole::push_threads;

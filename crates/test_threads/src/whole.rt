@@ -5,7 +5,8 @@ use array_store::Limits;
 use cell_values::{Bytes, Memory};
 use std::sync::Wait;
 use std::thread::Threads;
-use test_disks::{Answer, SilentDisk, new_database, opened, read_over, with_change};
+use test_disks::{new_database, opened, read_over, with_change};
+use test_quiet::{Answer, SilentDisk};
 use test_stores::tallied;
 
 /// Adds all that a store holds that is opened over the disk.

@@ -3,7 +3,7 @@
 //! `aggregate sum 1:5 | 0:null` takes two sets of places into two states, merges them and tells the aggregate.
 ghost use Rattle.std.specs.Prelude.{◌+◌, ◌≤◌, IfOk};
 
-use crate::words::{front_of, parts_of};
+use crate::words::front_of;
 use agg_states::AggState;
 use cell_values::{Datum, Memory, coord_of};
 use logical_plan::AggFunction;
@@ -69,7 +69,7 @@ fn merged(
 /// Adds the aggregate of two parts.
 pub(crate) fn push_aggregate(out: &mut String, operands: &str) -> Result<(), Memory> {
     let (function, places) = front_of(operands);
-    let (first, second) = parts_of(places);
+    let (first, second) = places.split_once('|').unwrap_or((places, ""));
     let value = merged(*out.allocator(), function_of(function), first, second)?;
     push_value(out, value)
 }

@@ -7,27 +7,34 @@ use cell_values::{
 use std::alloc::Global;
 use test_kit::{datum_of, push_value};
 
-fn related(op: &str, a: &Datum, b: &Datum) -> Datum {
+fn comparison_of(op: &str) -> CompareOp {
     match op {
-        "=" => compare(CompareOp::Equal, a, b),
-        "<>" => compare(CompareOp::Differs, a, b),
-        "<" => compare(CompareOp::Less, a, b),
-        "<=" => compare(CompareOp::AtMost, a, b),
-        ">" => compare(CompareOp::More, a, b),
-        _ => compare(CompareOp::AtLeast, a, b),
+        "=" => CompareOp::Equal,
+        "<>" => CompareOp::Differs,
+        "<" => CompareOp::Less,
+        "<=" => CompareOp::AtMost,
+        ">" => CompareOp::More,
+        _ => CompareOp::AtLeast,
+    }
+}
+
+/// What a call on two numbers but a sum gives, or a comparison.
+fn worked(op: &str, a: &Datum, b: &Datum) -> Datum {
+    match op {
+        "-" => sub(a, b),
+        "*" => mul(a, b),
+        "/" => div(a, b),
+        "%" => rem(a, b),
+        op => compare(comparison_of(op), a, b),
     }
 }
 
 fn of_two(alloc: Global, op: &str, a: &Datum, b: &Datum) -> Result<Datum, Memory> {
     match op {
         "+" => add(alloc, a, b),
-        "-" => Ok(sub(a, b)),
-        "*" => Ok(mul(a, b)),
-        "/" => Ok(div(a, b)),
-        "%" => Ok(rem(a, b)),
         "and" => Ok(and3(a, b)),
         "or" => Ok(or3(a, b)),
-        op => Ok(related(op, a, b)),
+        op => Ok(worked(op, a, b)),
     }
 }
 

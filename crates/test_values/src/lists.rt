@@ -30,11 +30,21 @@ impl Lists {
         }
     }
 
-    /// Does a call with a place or a length, and perhaps a byte, and adds the item that it gives, if it gives one.
-    fn call_at(&mut self, out: &mut String, word: &str, at: usize, byte: u8) -> Result<(), Memory> {
+    /// Does a call on the whole list.
+    fn call_whole(&mut self, word: &str, room: usize) -> Result<(), Memory> {
         match word {
-            "get" => return push_item(out, self.list.get(at).copied()),
-            "begin" => self.list = Bytes::with_capacity(self.taken.allocator(), at.min(1024))?,
+            "begin" => self.list = Bytes::with_capacity(self.taken.allocator(), room.min(1024))?,
+            "append" => return self.list.append(self.taken.copy()?),
+            "copy" => self.taken = self.list.copy()?,
+            "take" => self.taken = self.list.take(),
+            _ => self.list.clear(),
+        }
+        Ok(())
+    }
+
+    /// Does a call with a place or a length, and perhaps a byte, or one on the whole list.
+    fn call_at(&mut self, word: &str, at: usize, byte: u8) -> Result<(), Memory> {
+        match word {
             "insert" => {
                 if at <= self.list.len() {
                     return self.list.insert(at, byte);
@@ -50,7 +60,8 @@ impl Lists {
                     let _byte = self.list.remove(at);
                 }
             }
-            _ => self.list.truncate(at),
+            "truncate" => self.list.truncate(at),
+            word => return self.call_whole(word, at),
         }
         Ok(())
     }
@@ -60,37 +71,39 @@ impl Lists {
         let (word, operands) = front_of(call);
         let (operand, byte) = front_of(operands);
         match word {
-            "append" => return self.list.append(self.taken.copy()?),
-            "extend" => return self.list.extend(operand.as_bytes()),
-            "push" => return self.list.push(byte_of(operand)),
-            "pop" => return push_item(out, self.list.pop()),
-            "clear" => self.list.clear(),
-            "copy" => self.taken = self.list.copy()?,
-            "take" => self.taken = self.list.take(),
-            word => return self.call_at(out, word, place_in(operand), byte_of(byte)),
+            "get" => push_item(out, self.list.get(place_in(operand)).copied()),
+            "pop" => push_item(out, self.list.pop()),
+            "extend" => self.list.extend(operand.as_bytes()),
+            "push" => self.list.push(byte_of(operand)),
+            word => self.call_at(word, place_in(operand), byte_of(byte)),
         }
-        Ok(())
     }
 
     /// Does a call, and adds what it gives, the list that it leaves with its length and its largest byte, and how that
     /// stands to what was taken.
     pub(crate) fn push_call(&mut self, out: &mut String, call: &str) -> Result<(), Memory> {
         self.call(out, call)?;
-        let list = self.list.as_slice();
-        let shown = push_quoted(out, list);
-        let of = push_word(out, " of ");
-        let counted = push_count(out, list.len() as u64);
-        shown.and(of).and(counted)?;
-        if let Some(most) = list.iter().copied().max() {
-            push_word(out, ", largest ").and(push_text(out, &[most]))?;
-        }
+        let shown = push_shown(out, self.list.as_slice());
         let standing = match self.list.cmp(&self.taken) {
             Ordering::Less => ", less than ",
             Ordering::Equal => ", equal to ",
             Ordering::Greater => ", more than ",
         };
-        push_word(out, standing).and(push_quoted(out, self.taken.as_slice()))
+        let stands = push_word(out, standing);
+        let taken = push_quoted(out, self.taken.as_slice());
+        shown.and(stands).and(taken)
     }
+}
+
+/// Adds a list with its length and its largest byte.
+fn push_shown(out: &mut String, list: &[u8]) -> Result<(), Memory> {
+    let shown = push_quoted(out, list).and(push_word(out, " of "));
+    let counted = push_count(out, list.len() as u64);
+    let largest = match list.iter().copied().max() {
+        Some(most) => push_word(out, ", largest ").and(push_text(out, &[most])),
+        None => Ok(()),
+    };
+    shown.and(counted).and(largest)
 }
 
 /// Adds an item of a list.

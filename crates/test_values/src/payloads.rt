@@ -9,7 +9,7 @@ use array_rows::Cells;
 use cell_values::{Attribute, ChunkAt, Dimension, Kind, List, Memory, Schema};
 use chunk_rle::{BadPayload, decode, encode};
 use std::alloc::Global;
-use test_kit::{bytes_in, cell_of, name_of, one_more, place_in, push_hex, push_word};
+use test_kit::{bytes_in, cell_of, name_of, one_more, place_in, push_count, push_hex, push_word};
 
 /// A number in each cell.
 pub(crate) fn attributes(alloc: Global) -> Result<List<Attribute>, Memory>
@@ -125,7 +125,10 @@ pub(crate) fn push_read(out: &mut String, digits: &str) -> Result<(), Memory> {
             drop(chunk);
             told
         }
-        Err(BadPayload::At { at }) => Ok(write!(out, "wrong at {at}\n")?),
+        Err(BadPayload::At { at }) => {
+            let placed = push_word(out, "wrong at ").and(push_count(out, at));
+            placed.and(push_word(out, "\n"))
+        }
         Err(BadPayload::Memory) => push_word(out, "no memory\n"),
     }
 }

@@ -35,20 +35,33 @@ fn push_code(out: &mut String, number: &str) -> Result<(), Memory> {
     }
 }
 
-/// Adds the answer to a call, whose first word is its name or its first operand.
-fn push_call(out: &mut String, word: &str, operands: &str) -> Result<(), Memory> {
+/// Adds the answer to a call on coordinates, or to one of the value table, whose first word is its sign or its first operand.
+fn push_worked(out: &mut String, word: &str, operands: &str) -> Result<(), Memory> {
     match word {
-        "name" => push_name(out, operands),
-        "code" => push_code(out, operands),
-        "row" => push_row(out, operands),
-        "bounds" => push_bounds(out, operands),
-        "broken" => push_broken(out, operands),
         "order" => push_word(out, order_of(operands)),
         "same" => push_word(out, sameness_of(operands)),
         "box" => push_word(out, side_of(operands)),
         "-" => push_one(out, word, operands),
         "not" => push_one(out, word, operands),
         word => push_two(out, word, operands),
+    }
+}
+
+/// Adds the answer to a call.
+fn push_call(
+    out: &mut String,
+    lists: &mut Lists,
+    word: &str,
+    operands: &str,
+) -> Result<(), Memory> {
+    match word {
+        "list" => lists.push_call(out, operands),
+        "name" => push_name(out, operands),
+        "code" => push_code(out, operands),
+        "row" => push_row(out, operands),
+        "bounds" => push_bounds(out, operands),
+        "broken" => push_broken(out, operands),
+        word => push_worked(out, word, operands),
     }
 }
 
@@ -60,15 +73,11 @@ fn push_answer(
     text: &str,
 ) -> Result<(), Memory> {
     let (word, operands) = front_of(text);
-    let told = match table {
-        Table::Chunks => return push_chunk_call(out, word, operands),
-        Table::Aggregates => push_aggregate(out, operands),
-        _ => match word {
-            "list" => lists.push_call(out, operands),
-            word => push_call(out, word, operands),
-        },
-    };
-    told.and(push_word(out, "\n"))
+    match table {
+        Table::Values => push_call(out, lists, word, operands).and(push_word(out, "\n")),
+        Table::Chunks => push_chunk_call(out, word, operands),
+        Table::Aggregates => push_aggregate(out, operands).and(push_word(out, "\n")),
+    }
 }
 
 /// Adds the answer to a line of a table.

@@ -1,5 +1,6 @@
 pub mod Arrays
 pub mod DirectoryLaws
+pub mod Fields
 pub mod Kept
 pub mod Last
 pub mod Laws

@@ -1,8 +1,8 @@
 -- Arrays of a catalogue and their entries.
-use Rattle.std.proofs.Common.{◌≡◌, ◌⊎◌, inl, inr, ℕ, zero, suc, ◌-◌, ◌<◌, ◌≤◌, min, Bool, true, false, cond, not, ◌&&◌, ◌||◌, nat_lt, List, [], ◌∷◌, ◌++◌, length, take, drop, Some, refl, sym, ap, ◌∙◌, arith}
+use Rattle.std.proofs.Common.{◌≡◌, ◌⊎◌, inl, inr, ℕ, zero, suc, ◌-◌, ◌<◌, ◌≤◌, min, Bool, true, false, cond, not, ◌&&◌, ◌||◌, nat_lt, List, [], ◌∷◌, ◌++◌, length, map, take, drop, Some, refl, sym, ap, ◌∙◌, arith}
 use Rattle.std.specs.List.{list_all, list_any, find, insert}
 use Rattle.std.proofs.lemmas.Bool.{and_from, or_parts, cases_lt}
-use Rattle.std.proofs.lemmas.List.{take_at, length-drop}
+use Rattle.std.proofs.lemmas.List.{take_all, take_at, take-append-le, length-drop, length-map}
 use Rattle.cell_values.specs.declared.schema.Schema.{Schema}
 use Rattle.plan_changes.specs.Allowed.{has_number}
 use Rattle.plan_changes.proofs.Maps.{all_inserted}
@@ -70,3 +70,13 @@ pub new_has : (name : List ℕ) (schema : Schema) (arrays : List CatalogArray) (
     → list_all (λ array. has_number name array.entry) (insert arrays i (record { entry = new_entry name schema; directories = [] })) ≡ true
 new_has name schema arrays i none =
     all_inserted (λ array. has_number name array.entry) (record { entry = new_entry name schema; directories = [] }) (new_small (is_named name (new_entry name schema))) arrays i (others_have name arrays none)
+
+-- a vector whose items were written in place
+pub mapped : (n : ℕ) (f : CatalogArray → CatalogArray) (old items now new rest result : List CatalogArray) → items ≡ old → now ≡ items → n ≡ length items → new ≡ map f now
+    → result ≡ take n (new ++ rest) → result ≡ map f old
+mapped n f old items now new rest result is same long all cut =
+    let one : new ≡ map f old = all ∙ ap (map f) (same ∙ is) in
+    let size : n ≡ length new = long ∙ ap length is ∙ sym (ap length one ∙ length-map old f) in
+    let whole : length new ≤ n = omega arith in
+    let within : n ≤ length new = omega arith in
+    cut ∙ take-append-le n new rest within ∙ take_all n new whole ∙ one

@@ -1,6 +1,7 @@
 -- Each expression has a code of its own.
 use Rattle.std.specs.Prelude.{◌≡◌, ℕ, List, [], ◌∷◌}
-use Rattle.std.proofs.Common.{ap, arith}
+use Rattle.std.proofs.Common.{ap, refl}
+use Rattle.std.proofs.lemmas.Bool.{eqb-false}
 use Rattle.std.specs.Coded.{Coded, coded_list}
 use base.Stored.{coded_via, Gv, gnum, num}
 use Rattle.cell_values.specs.declared.datum.Datum.{Datum}
@@ -25,6 +26,20 @@ abbrev first_number : List Gv → ℕ
 first_number [] = 0
 first_number (g ∷ gs) = num g
 
+abbrev head : List Gv → Gv
+head [] = gnum 0
+head (g ∷ gs) = g
+
+abbrev behind : List Gv → List Gv
+behind [] = []
+behind (g ∷ gs) = gs
+
+abbrev second : List Gv → Gv
+second gs = head (behind gs)
+
+abbrev after_two : List Gv → List Gv
+after_two gs = behind (behind gs)
+
 -- the expression's codes, before further ones
 pub numbers : Expr → List Gv → List Gv
 numbers (literal v) rest = gnum 0 ∷ datum_code.code v ∷ rest
@@ -45,40 +60,40 @@ numbers (null_code a) rest = gnum 14 ∷ numbers a rest
 
 pub same_numbers : (s t : Expr) (x y : List Gv) → numbers s x ≡ numbers t y → (s ≡ t) × (x ≡ y)
 unfolding numbers
-same_numbers (literal v) (literal w) x y e = let same : v ≡ w = datum_code.inj v w (cc) in (cc (same), cc)
-same_numbers (attribute_value n) (attribute_value m) x y e = (cc, cc)
-same_numbers (dimension_value n) (dimension_value m) x y e = (cc, cc)
-same_numbers (minus a) (minus b) x y e = let r : (a ≡ b) × (x ≡ y) = same_numbers a b x y (cc) in (cc (r.0), r.1)
-same_numbers (denial a) (denial b) x y e = let r : (a ≡ b) × (x ≡ y) = same_numbers a b x y (cc) in (cc (r.0), r.1)
+same_numbers (literal v) (literal w) x y e = (ap literal (datum_code.inj v w (ap second e)), ap after_two e)
+same_numbers (attribute_value n) (attribute_value m) x y e = (ap attribute_value (ap num (ap second e)), ap after_two e)
+same_numbers (dimension_value n) (dimension_value m) x y e = (ap dimension_value (ap num (ap second e)), ap after_two e)
+same_numbers (minus a) (minus b) x y e = let r : (a ≡ b) × (x ≡ y) = same_numbers a b x y (ap behind e) in (ap minus r.0, r.1)
+same_numbers (denial a) (denial b) x y e = let r : (a ≡ b) × (x ≡ y) = same_numbers a b x y (ap behind e) in (ap denial r.0, r.1)
 same_numbers (calculation o a b) (calculation p c d) x y e =
-    let op : o ≡ p = arith_code.inj o p (cc) in
-    let first : (a ≡ c) × (numbers b x ≡ numbers d y) = same_numbers a c (numbers b x) (numbers d y) (cc) in
+    let op : o ≡ p = arith_code.inj o p (ap second e) in
+    let first : (a ≡ c) × (numbers b x ≡ numbers d y) = same_numbers a c (numbers b x) (numbers d y) (ap after_two e) in
     let second : (b ≡ d) × (x ≡ y) = same_numbers b d x y first.1 in
-    (cc (op, first.0, second.0), second.1)
+    (λ i. calculation (op i) (first.0 i) (second.0 i), second.1)
 same_numbers (relation o a b) (relation p c d) x y e =
-    let op : o ≡ p = compare_code.inj o p (cc) in
-    let first : (a ≡ c) × (numbers b x ≡ numbers d y) = same_numbers a c (numbers b x) (numbers d y) (cc) in
+    let op : o ≡ p = compare_code.inj o p (ap second e) in
+    let first : (a ≡ c) × (numbers b x ≡ numbers d y) = same_numbers a c (numbers b x) (numbers d y) (ap after_two e) in
     let second : (b ≡ d) × (x ≡ y) = same_numbers b d x y first.1 in
-    (cc (op, first.0, second.0), second.1)
+    (λ i. relation (op i) (first.0 i) (second.0 i), second.1)
 same_numbers (conjunction a b) (conjunction c d) x y e =
-    let first : (a ≡ c) × (numbers b x ≡ numbers d y) = same_numbers a c (numbers b x) (numbers d y) (cc) in
+    let first : (a ≡ c) × (numbers b x ≡ numbers d y) = same_numbers a c (numbers b x) (numbers d y) (ap behind e) in
     let second : (b ≡ d) × (x ≡ y) = same_numbers b d x y first.1 in
-    (cc (first.0, second.0), second.1)
+    (λ i. conjunction (first.0 i) (second.0 i), second.1)
 same_numbers (disjunction a b) (disjunction c d) x y e =
-    let first : (a ≡ c) × (numbers b x ≡ numbers d y) = same_numbers a c (numbers b x) (numbers d y) (cc) in
+    let first : (a ≡ c) × (numbers b x ≡ numbers d y) = same_numbers a c (numbers b x) (numbers d y) (ap behind e) in
     let second : (b ≡ d) × (x ≡ y) = same_numbers b d x y first.1 in
-    (cc (first.0, second.0), second.1)
+    (λ i. disjunction (first.0 i) (second.0 i), second.1)
 same_numbers (conditional t a b) (conditional u c d) x y e =
-    let test : (t ≡ u) × (numbers a (numbers b x) ≡ numbers c (numbers d y)) = same_numbers t u (numbers a (numbers b x)) (numbers c (numbers d y)) (cc) in
+    let test : (t ≡ u) × (numbers a (numbers b x) ≡ numbers c (numbers d y)) = same_numbers t u (numbers a (numbers b x)) (numbers c (numbers d y)) (ap behind e) in
     let first : (a ≡ c) × (numbers b x ≡ numbers d y) = same_numbers a c (numbers b x) (numbers d y) test.1 in
     let second : (b ≡ d) × (x ≡ y) = same_numbers b d x y first.1 in
-    (cc (test.0, first.0, second.0), second.1)
-same_numbers (null_test a) (null_test b) x y e = let r : (a ≡ b) × (x ≡ y) = same_numbers a b x y (cc) in (cc (r.0), r.1)
-same_numbers (byte_length a) (byte_length b) x y e = let r : (a ≡ b) × (x ≡ y) = same_numbers a b x y (cc) in (cc (r.0), r.1)
-same_numbers (decimal_text a) (decimal_text b) x y e = let r : (a ≡ b) × (x ≡ y) = same_numbers a b x y (cc) in (cc (r.0), r.1)
-same_numbers (coded_null a) (coded_null b) x y e = let r : (a ≡ b) × (x ≡ y) = same_numbers a b x y (cc) in (cc (r.0), r.1)
-same_numbers (null_code a) (null_code b) x y e = let r : (a ≡ b) × (x ≡ y) = same_numbers a b x y (cc) in (cc (r.0), r.1)
-same_numbers _ _ x y e = absurd (omega (arith, ap first_number e))
+    (λ i. conditional (test.0 i) (first.0 i) (second.0 i), second.1)
+same_numbers (null_test a) (null_test b) x y e = let r : (a ≡ b) × (x ≡ y) = same_numbers a b x y (ap behind e) in (ap null_test r.0, r.1)
+same_numbers (byte_length a) (byte_length b) x y e = let r : (a ≡ b) × (x ≡ y) = same_numbers a b x y (ap behind e) in (ap byte_length r.0, r.1)
+same_numbers (decimal_text a) (decimal_text b) x y e = let r : (a ≡ b) × (x ≡ y) = same_numbers a b x y (ap behind e) in (ap decimal_text r.0, r.1)
+same_numbers (coded_null a) (coded_null b) x y e = let r : (a ≡ b) × (x ≡ y) = same_numbers a b x y (ap behind e) in (ap coded_null r.0, r.1)
+same_numbers (null_code a) (null_code b) x y e = let r : (a ≡ b) × (x ≡ y) = same_numbers a b x y (ap behind e) in (ap null_code r.0, r.1)
+same_numbers s t x y e = absurd (eqb-false (first_number (numbers s x)) (first_number (numbers t y)) refl (ap first_number e))
 
 -- a code is its own code
 abbrev itself : Coded Gv

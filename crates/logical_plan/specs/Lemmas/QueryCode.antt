@@ -1,6 +1,7 @@
 -- Each plan has a code of its own.
 use Rattle.std.specs.Prelude.{◌≡◌, ℕ, List, [], ◌∷◌}
-use Rattle.std.proofs.Common.{ap, arith}
+use Rattle.std.proofs.Common.{ap, refl}
+use Rattle.std.proofs.lemmas.Bool.{eqb-false}
 use Rattle.std.specs.Coded.{Coded, coded_list, coded_ℕ}
 use base.Stored.{coded_via, Gv, gnum, num}
 use Rattle.cell_values.specs.declared.datum.Row.{Row}
@@ -59,6 +60,26 @@ abbrev first_number : List Gv → ℕ
 first_number [] = 0
 first_number (g ∷ gs) = num g
 
+abbrev head : List Gv → Gv
+head [] = gnum 0
+head (g ∷ gs) = g
+
+abbrev behind : List Gv → List Gv
+behind [] = []
+behind (g ∷ gs) = gs
+
+abbrev second : List Gv → Gv
+second gs = head (behind gs)
+
+abbrev third : List Gv → Gv
+third gs = head (behind (behind gs))
+
+abbrev after_two : List Gv → List Gv
+after_two gs = behind (behind gs)
+
+abbrev after_three : List Gv → List Gv
+after_three gs = behind (behind (behind gs))
+
 -- the plan's codes, before further ones
 pub numbers : Query → List Gv → List Gv
 numbers (built s e) rest = gnum 0 ∷ schema_code.code s ∷ expr_code.code e ∷ rest
@@ -80,58 +101,58 @@ numbers (aggregated q gs ns) rest = gnum 14 ∷ aggregates_code.code gs ∷ numb
 pub same_numbers : (p q : Query) (x y : List Gv) → numbers p x ≡ numbers q y → (p ≡ q) × (x ≡ y)
 unfolding numbers
 same_numbers (built s e) (built t f) x y h =
-    let schemas : s ≡ t = schema_code.inj s t (cc) in
-    let values : e ≡ f = expr_code.inj e f (cc) in (cc (schemas, values), cc)
+    let schemas : s ≡ t = schema_code.inj s t (ap second h) in
+    let values : e ≡ f = expr_code.inj e f (ap third h) in (λ i. built (schemas i) (values i), ap after_three h)
 same_numbers (listed s a) (listed t b) x y h =
-    let schemas : s ≡ t = schema_code.inj s t (cc) in
-    let rows : a ≡ b = rows_code.inj a b (cc) in (cc (schemas, rows), cc)
-same_numbers (scanned a) (scanned b) x y h = let leaves : a ≡ b = leaf_code.inj a b (cc) in (cc (leaves), cc)
+    let schemas : s ≡ t = schema_code.inj s t (ap second h) in
+    let rows : a ≡ b = rows_code.inj a b (ap third h) in (λ i. listed (schemas i) (rows i), ap after_three h)
+same_numbers (scanned a) (scanned b) x y h = (ap scanned (leaf_code.inj a b (ap second h)), ap after_two h)
 same_numbers (filtered p e) (filtered q f) x y h =
-    let values : e ≡ f = expr_code.inj e f (cc) in
-    let r : (p ≡ q) × (x ≡ y) = same_numbers p q x y (cc) in (cc (values, r.0), r.1)
+    let values : e ≡ f = expr_code.inj e f (ap second h) in
+    let r : (p ≡ q) × (x ≡ y) = same_numbers p q x y (ap after_two h) in (λ i. filtered (r.0 i) (values i), r.1)
 same_numbers (applied p a) (applied q b) x y h =
-    let values : a ≡ b = applied_code.inj a b (cc) in
-    let r : (p ≡ q) × (x ≡ y) = same_numbers p q x y (cc) in (cc (values, r.0), r.1)
+    let values : a ≡ b = applied_code.inj a b (ap second h) in
+    let r : (p ≡ q) × (x ≡ y) = same_numbers p q x y (ap after_two h) in (λ i. applied (r.0 i) (values i), r.1)
 same_numbers (projected p a) (projected q b) x y h =
-    let places : a ≡ b = numbers_code.inj a b (cc) in
-    let r : (p ≡ q) × (x ≡ y) = same_numbers p q x y (cc) in (cc (places, r.0), r.1)
+    let places : a ≡ b = numbers_code.inj a b (ap second h) in
+    let r : (p ≡ q) × (x ≡ y) = same_numbers p q x y (ap after_two h) in (λ i. projected (r.0 i) (places i), r.1)
 same_numbers (between p a) (between q b) x y h =
-    let areas : a ≡ b = bounds_code.inj a b (cc) in
-    let r : (p ≡ q) × (x ≡ y) = same_numbers p q x y (cc) in (cc (areas, r.0), r.1)
+    let areas : a ≡ b = bounds_code.inj a b (ap second h) in
+    let r : (p ≡ q) × (x ≡ y) = same_numbers p q x y (ap after_two h) in (λ i. between (r.0 i) (areas i), r.1)
 same_numbers (subarray p a) (subarray q b) x y h =
-    let areas : a ≡ b = bounds_code.inj a b (cc) in
-    let r : (p ≡ q) × (x ≡ y) = same_numbers p q x y (cc) in (cc (areas, r.0), r.1)
+    let areas : a ≡ b = bounds_code.inj a b (ap second h) in
+    let r : (p ≡ q) × (x ≡ y) = same_numbers p q x y (ap after_two h) in (λ i. subarray (r.0 i) (areas i), r.1)
 same_numbers (sliced p a) (sliced q b) x y h =
-    let fixed : a ≡ b = fixed_code.inj a b (cc) in
-    let r : (p ≡ q) × (x ≡ y) = same_numbers p q x y (cc) in (cc (fixed, r.0), r.1)
+    let fixed : a ≡ b = fixed_code.inj a b (ap second h) in
+    let r : (p ≡ q) × (x ≡ y) = same_numbers p q x y (ap after_two h) in (λ i. sliced (r.0 i) (fixed i), r.1)
 same_numbers (joined a b s) (joined c d t) x y h =
-    let schemas : s ≡ t = schema_code.inj s t (cc) in
-    let first : (a ≡ c) × (numbers b x ≡ numbers d y) = same_numbers a c (numbers b x) (numbers d y) (cc) in
+    let schemas : s ≡ t = schema_code.inj s t (ap second h) in
+    let first : (a ≡ c) × (numbers b x ≡ numbers d y) = same_numbers a c (numbers b x) (numbers d y) (ap after_two h) in
     let second : (b ≡ d) × (x ≡ y) = same_numbers b d x y first.1 in
-    (cc (schemas, first.0, second.0), second.1)
+    (λ i. joined (first.0 i) (second.0 i) (schemas i), second.1)
 same_numbers (crossed a b ps s) (crossed c d qs t) x y h =
-    let pairs : ps ≡ qs = pairs_code.inj ps qs (cc) in
-    let schemas : s ≡ t = schema_code.inj s t (cc) in
-    let first : (a ≡ c) × (numbers b x ≡ numbers d y) = same_numbers a c (numbers b x) (numbers d y) (cc) in
+    let pairs : ps ≡ qs = pairs_code.inj ps qs (ap second h) in
+    let schemas : s ≡ t = schema_code.inj s t (ap third h) in
+    let first : (a ≡ c) × (numbers b x ≡ numbers d y) = same_numbers a c (numbers b x) (numbers d y) (ap after_three h) in
     let second : (b ≡ d) × (x ≡ y) = same_numbers b d x y first.1 in
-    (cc (pairs, schemas, first.0, second.0), second.1)
+    (λ i. crossed (first.0 i) (second.0 i) (pairs i) (schemas i), second.1)
 same_numbers (redimensioned p s a) (redimensioned q t b) x y h =
-    let schemas : s ≡ t = schema_code.inj s t (cc) in
-    let aggregates : a ≡ b = aggregates_code.inj a b (cc) in
-    let r : (p ≡ q) × (x ≡ y) = same_numbers p q x y (cc) in (cc (schemas, aggregates, r.0), r.1)
+    let schemas : s ≡ t = schema_code.inj s t (ap second h) in
+    let aggregates : a ≡ b = aggregates_code.inj a b (ap third h) in
+    let r : (p ≡ q) × (x ≡ y) = same_numbers p q x y (ap after_three h) in (λ i. redimensioned (r.0 i) (schemas i) (aggregates i), r.1)
 same_numbers (regridded p ns a) (regridded q ms b) x y h =
-    let sizes : ns ≡ ms = numbers_code.inj ns ms (cc) in
-    let aggregates : a ≡ b = aggregates_code.inj a b (cc) in
-    let r : (p ≡ q) × (x ≡ y) = same_numbers p q x y (cc) in (cc (sizes, aggregates, r.0), r.1)
+    let sizes : ns ≡ ms = numbers_code.inj ns ms (ap second h) in
+    let aggregates : a ≡ b = aggregates_code.inj a b (ap third h) in
+    let r : (p ≡ q) × (x ≡ y) = same_numbers p q x y (ap after_three h) in (λ i. regridded (r.0 i) (sizes i) (aggregates i), r.1)
 same_numbers (windowed p rs a) (windowed q ss b) x y h =
-    let reaches : rs ≡ ss = reach_code.inj rs ss (cc) in
-    let aggregates : a ≡ b = aggregates_code.inj a b (cc) in
-    let r : (p ≡ q) × (x ≡ y) = same_numbers p q x y (cc) in (cc (reaches, aggregates, r.0), r.1)
+    let reaches : rs ≡ ss = reach_code.inj rs ss (ap second h) in
+    let aggregates : a ≡ b = aggregates_code.inj a b (ap third h) in
+    let r : (p ≡ q) × (x ≡ y) = same_numbers p q x y (ap after_three h) in (λ i. windowed (r.0 i) (reaches i) (aggregates i), r.1)
 same_numbers (aggregated p a ns) (aggregated q b ms) x y h =
-    let aggregates : a ≡ b = aggregates_code.inj a b (cc) in
-    let places : ns ≡ ms = numbers_code.inj ns ms (cc) in
-    let r : (p ≡ q) × (x ≡ y) = same_numbers p q x y (cc) in (cc (aggregates, places, r.0), r.1)
-same_numbers _ _ x y h = absurd (omega (arith, ap first_number h))
+    let aggregates : a ≡ b = aggregates_code.inj a b (ap second h) in
+    let places : ns ≡ ms = numbers_code.inj ns ms (ap third h) in
+    let r : (p ≡ q) × (x ≡ y) = same_numbers p q x y (ap after_three h) in (λ i. aggregated (r.0 i) (aggregates i) (places i), r.1)
+same_numbers p q x y h = absurd (eqb-false (first_number (numbers p x)) (first_number (numbers q y)) refl (ap first_number h))
 
 -- a code is its own code
 abbrev itself : Coded Gv

@@ -3,7 +3,7 @@ ghost use Rattle.plan_changes.specs.Stored.{AreStored};
 ghost use Rattle.store_ledger.specs.Ledger.{IsOpenPin};
 ghost use Rattle.test_disks.specs.Holds.{HasNoPins};
 
-use crate::readings::reading::{cells, leaf_of};
+use crate::readings::reading::cells;
 use afl_outside::Disk;
 use array_store::Store;
 use cell_values::{Bytes, Memory};
@@ -11,6 +11,7 @@ use logical_plan::NameEntry;
 use std::alloc::Global;
 use store_ledger::{PinFault, Pinned};
 use store_state::ReadFault;
+use test_quiet::leaf_of;
 
 fn or_memory(added: Result<(), Memory>) -> Result<(), ReadFault> {
     match added {

@@ -1,27 +1,26 @@
 //! Commits under a session's pin.
-ghost use Rattle.std.specs.Prelude.{◌≡◌, false, IsTrue, Option};
+ghost use Rattle.std.specs.Prelude.{◌≡◌, false, IfOk, IsTrue, Option};
 ghost use Rattle.array_geom.specs.declared.chunk.Changed.{Changed};
 ghost use Rattle.event_core.specs.Allowed.{is_pinned};
 ghost use Rattle.event_core.specs.History.{names_at};
+ghost use Rattle.plan_changes.specs.Stored.{AreStored};
 ghost use Rattle.prepared_commits.specs.Prepared.{IsPreparedFor};
-ghost use Rattle.store_ledger.specs.Ledger.{history, is_noted, is_tried};
+ghost use Rattle.store_ledger.specs.Ledger.{IsOpenPin, history, is_noted, is_tried};
 ghost use Rattle.test_disks.specs.Holds.{IsHold, LeavesOthers, LeavesTried};
-ghost use Rattle.test_disks.specs.Offers.{IsOffer};
+ghost use Rattle.test_quiet.specs.Offers.{IsOffer};
 ghost use Rattle.test_quiet.specs.Quiet.{quiet_moment};
 
-use crate::stores::answers::Answer;
-use crate::stores::changes::{Offer, offer_under};
-use crate::stores::holds::Hold;
 use crate::stores::pins::{pinned, unpinned};
-use afl_outside::Failed;
+use afl_outside::{Disk, Failed};
 use array_geom::Changed;
 use array_store::Store;
 use cell_values::Name;
-use plan_changes::{Change, changed_name, has_its_names, newest_of};
+use plan_changes::{Change, changed_name, has_its_names, let_go_change, newest_of};
 use prepared_commits::{PrepareFault, Prepared};
 use std::alloc::Global;
 use std::thread::Threads;
-use test_quiet::QuietDisk;
+use store_ledger::Pinned;
+use test_quiet::{Answer, Hold, Offer, QuietDisk, change_over, offer_over};
 
 /// What was committed: the newest version, where the change made one.
 fn done(store: &Store<QuietDisk>, made: Option<Name>) -> Answer {
@@ -81,6 +80,32 @@ fn committed(alloc: Global, store: &mut Store<QuietDisk>, session: u32, offer: O
             drop(made);
             answer_of(fault)
         }
+    }
+}
+
+/// The change that a text is under a pin, if nothing of it was changed since, with the chunks that come with it.
+fn offer_under<D: Disk, R: Threads + Sync>(
+    rt: &R,
+    alloc: Global,
+    store: &Store<D>,
+    pinned: &Pinned,
+    text: &[u8],
+) -> Result<Offer, Answer>
+    requires open { IsOpenPin store.now.ledger pinned.now }
+    requires stored { AreStored pinned.now.names }
+    ensures { IfOk result (IsOffer (names_at store.now.ledger.base (history store.now.ledger))) }
+{
+    match change_over(alloc, text, &pinned.names) {
+        Ok(change) => {
+            let fresh = store.fresh(pinned, &change);
+            let_go_change(change);
+            if fresh {
+                offer_over(rt, alloc, store.names(), text)
+            } else {
+                Err(Answer::Stale)
+            }
+        }
+        Err(answer) => Err(answer),
     }
 }
 

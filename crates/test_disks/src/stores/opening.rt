@@ -1,4 +1,4 @@
-//! Stores over disks.
+//! Stores over disks, and how much they may use.
 ghost use Rattle.std.specs.Prelude.{◌≡◌, [], IfOk};
 ghost use Rattle.test_disks.specs.Holds.{HasNoPins};
 
@@ -7,6 +7,13 @@ use array_store::{Limits, Store};
 use event_core::let_go_entries;
 use page_file::OpenCause;
 use std::alloc::Global;
+use test_quiet::pair_of;
+
+/// How many pages and how many entries a store may have, by a text as `64 100`.
+pub fn limits_of(text: &str) -> Limits {
+    let (pages, history) = pair_of(text);
+    Limits { pages, history }
+}
 
 /// Lets a store go, with its disk.
 pub fn let_go_store<D: Disk + Drop>(store: Store<D>) {

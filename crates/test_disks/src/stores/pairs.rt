@@ -3,13 +3,10 @@ ghost use Rattle.std.specs.Prelude.{IfOk};
 ghost use Rattle.test_disks.specs.Holds.{IsHold, LeavesAll, LeavesOthers};
 ghost use Rattle.test_disks.specs.Pairs.{IsPair};
 
-use crate::readings::{cells, named_leaf};
-use crate::stores::answers::Answer;
+use crate::readings::cells;
 use crate::stores::commits::{changed, once};
-use crate::stores::holds::Hold;
 use crate::stores::opening::{let_go_store, opened};
-use crate::stores::pins::{pinned, reaped, unpinned};
-use crate::stores::steps::{Step, pair_of, step_of};
+use crate::stores::pins::{pin_of, pinned, reaped, unpinned};
 use array_store::{Limits, Store};
 use cell_values::{Memory, Name};
 use logical_plan::Names;
@@ -18,7 +15,7 @@ use std::alloc::Global;
 use std::mem::replace;
 use std::thread::Threads;
 use test_kit::name_of;
-use test_quiet::{QuietDisk, Watch};
+use test_quiet::{Answer, Hold, QuietDisk, Step, Watch, named_leaf, pair_of, step_of};
 
 /// A store, and what two sessions have of it.
 pub struct SessionPair {
@@ -66,7 +63,7 @@ fn told_cells(
     requires { IsHold store.old.ledger session held.now }
     ensures { LeavesAll store.old.ledger store.new.ledger }
 {
-    let Some(pinned) = held.pin() else {
+    let Some(pinned) = pin_of(held) else {
         return Answer::HasNoPin;
     };
     match named_leaf(alloc, &pinned.names, word) {
@@ -91,7 +88,7 @@ fn numbers_of(names: &Names, name: &Name) -> Answer {
 
 /// The numbers of an array's versions under a session's pin.
 fn told_versions(alloc: Global, held: &Hold, word: &str) -> Answer {
-    match held.pin() {
+    match pin_of(held) {
         Some(pinned) => match name_of(alloc, word.as_bytes()) {
             Ok(name) => numbers_of(&pinned.names, &name),
             Err(Memory) => Answer::Unknown,

@@ -1,13 +1,24 @@
 //! Pins of sessions.
-ghost use Rattle.std.specs.Prelude.{◌≡◌};
-ghost use Rattle.test_disks.specs.Holds.{IsHold, LeavesAll, LeavesOthers};
+ghost use Rattle.std.specs.Prelude.{ℕ, IfSome};
+ghost use Rattle.store_ledger.specs.Ledger.{LedgerState};
+ghost use Rattle.test_disks.specs.Holds.{IsHold, IsPinOf, LeavesAll, LeavesOthers};
 
-use crate::stores::answers::Answer;
-use crate::stores::holds::Hold;
 use afl_outside::Disk;
 use array_store::Store;
 use cell_values::Memory;
 use store_ledger::{PinFault, Pinned};
+use test_quiet::{Answer, Hold};
+
+/// The pin of what a session has, if it has one.
+pub(crate) fn pin_of(held: &Hold) -> Option<&Pinned>
+    ensures { (ledger : LedgerState) (session : ℕ) → IsHold ledger session held.now → IfSome result (λ pinned. IsPinOf ledger session pinned.now) }
+{
+    match held {
+        Hold::Free => None,
+        Hold::Pinned(pinned) => Some(pinned),
+        Hold::Tried(pinned) => Some(pinned),
+    }
+}
 
 /// A session that has no pin begins to have one.
 pub(crate) fn pinned<D: Disk>(store: &mut Store<D>, session: u32, held: Hold) -> (Hold, Answer)

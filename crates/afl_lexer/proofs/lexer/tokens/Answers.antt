@@ -51,3 +51,6 @@ returns-clause-only_tokens c tokens a = one_list c.args.text.now c.loop-at.token
 
 pub returns-clause-only_stop : goal.returns-clause-only_stop
 returns-clause-only_stop c at kind s = not_both c.args.text.now c.loop-at.tokens at kind (are c) s
+
+pub returns-clause-tokens : goal.returns-clause-tokens
+returns-clause-tokens c = are c

@@ -1,5 +1,5 @@
 use Rattle.std.proofs.Common.{◌≡◌, ℕ, ◌+◌, drop, true, false, ap, subst, ◌∙◌, sym, arith}
-use Rattle.std.proofs.lemmas.List.{take_rest}
+use Rattle.std.proofs.lemmas.List.{drop_all, take_rest}
 use Rattle.afl_lexer.specs.Scan.{item_len, begins_badly, escape_at, further}
 use Rattle.afl_lexer.proofs.quoted.bad_escape.Goals as goal
 use Rattle.afl_lexer.proofs.Steps.{further_none, escape_more, escape_found, step_within}
@@ -23,3 +23,8 @@ loop-at-preserved c =
       step_within bytes at c.front_len-at.result c.loop-at.invariant.0 c.front_len-at.ensures.within,
       subst (λ (k : ℕ). escape_at bytes ≡ further (at + k) (escape_at (drop (at + k) bytes))) (sym is) (escape_more bytes at good c.loop-at.invariant.1),
     )
+
+pub returns-clause-place : goal.returns-clause-place
+returns-clause-place c =
+    let at = c.loop-at.at in
+    sym (c.loop-at.invariant.1 ∙ ap (λ l. further at (escape_at l)) (drop_all at c.args.bytes.now c.loop-at-test.false))

@@ -1,5 +1,5 @@
 use Rattle.std.proofs.Common.{◌≡◌, ℕ, ◌<◌, ◌+◌, List, ◌++◌, map, drop, ap, subst, ◌∙◌, sym}
-use Rattle.std.proofs.lemmas.List.{take_rest}
+use Rattle.std.proofs.lemmas.List.{append-nil, drop_all, take_rest}
 use Rattle.afl_lexer.specs.Quoted.{items, byte_of}
 use Rattle.afl_lexer.specs.Scan.{item_len}
 use Rattle.afl_lexer.proofs.quoted.content.Goals as goal
@@ -16,3 +16,8 @@ loop-at-preserved c =
       subst (λ (so_far : List ℕ). map byte_of (items bytes) ≡ so_far ++ map byte_of (items (drop (at + k) bytes))) (sym c.in_ok-push.ensures.ok)
           (content_more bytes c.loop-at.content at k c.loop-at-test.true is pos c.loop-at.invariant.1),
     )
+
+pub returns : goal.returns
+returns c =
+    let so_far = c.loop-at.content in
+    sym (c.loop-at.invariant.1 ∙ ap (λ l. so_far ++ map byte_of (items l)) (drop_all c.loop-at.at c.args.bytes.now c.loop-at-test.false) ∙ append-nil so_far)

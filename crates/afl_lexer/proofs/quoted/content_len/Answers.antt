@@ -1,5 +1,5 @@
 use Rattle.std.proofs.Common.{◌≡◌, ℕ, ◌<◌, ◌+◌, length, drop, ap, subst, ◌∙◌, sym, arith}
-use Rattle.std.proofs.lemmas.List.{take_rest}
+use Rattle.std.proofs.lemmas.List.{drop_all, take_rest}
 use Rattle.afl_lexer.specs.Quoted.{items}
 use Rattle.afl_lexer.specs.Scan.{item_len}
 use Rattle.afl_lexer.proofs.quoted.content_len.Goals as goal
@@ -16,3 +16,8 @@ loop-at-preserved c =
       omega (arith, pos, c.loop-at.invariant.1),
       subst (λ (n : ℕ). length (items bytes) ≡ c.loop-at.count + 1 + length (items (drop (at + n) bytes))) (sym is) (count_more bytes at c.loop-at.count c.loop-at-test.true c.loop-at.invariant.2),
     )
+
+pub returns : goal.returns
+returns c =
+    let none : length (items (drop c.loop-at.at c.args.bytes.now)) ≡ 0 = ap (λ l. length (items l)) (drop_all c.loop-at.at c.args.bytes.now c.loop-at-test.false) in
+    omega (arith, none, c.loop-at.invariant.2)

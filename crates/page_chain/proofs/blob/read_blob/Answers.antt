@@ -1,8 +1,10 @@
 use Rattle.std.proofs.Common.{◌≡◌, ℕ, ◌*◌, length, refl, ap, ◌∙◌, arith}
+use Rattle.std.specs.Prelude.{Err}
 use Rattle.page_chain.specs.Pages.{page_size}
+use Rattle.page_chain.specs.declared.fault.Stopped.{Stopped}
 use Rattle.page_chain.proofs.Kept.{size_is}
-use Rattle.page_chain.proofs.BlobLemmas.{blob_stops, blob_goes_on, one_more_full, all_there}
-use Rattle.page_chain.proofs.RunLemmas.{reads_on}
+use Rattle.page_chain.proofs.BlobLemmas.{blob_starts, blob_stops, blob_goes_on, blob_done, none_full, one_more_full, all_there}
+use Rattle.page_chain.proofs.RunLemmas.{reads_none, reads_on, some_unit, rose_on, damage_no_fault, blob_want_no_fault}
 use Rattle.page_chain.proofs.blob.read_blob.Goals as goal
 
 pub read_page-requires : goal.read_page-requires
@@ -25,6 +27,43 @@ loop-page-preserved g c =
       told = blob_goes_on (g.D.Disk.moment c.args.disk.now).state.seen (g.D.Disk.moment c.loop-page.disk).state.seen c.args.pages.now i _ c.in-Ok-true.field-0 c.read_page.new.piece c.loop-page.bytes c.extend.new.self
           so_far.reads.seen c.loop-page-test.true refl c.in-Ok-true.field-0-test c.in-Ok-true.ensures.whole c.in-Ok-true.ensures.bytes more so_far.told;
     }
+
+pub loop-page-init : goal.loop-page-init
+loop-page-init g c = record {
+  reads = reads_none (g.D.Disk.moment c.args.disk.now).state _ _ (g.met.D.Disk.only_now c.args.disk.now);
+  size = none_full page_size c.new-bytes.result c.new-bytes.ensures;
+  told = blob_starts (g.D.Disk.moment c.args.disk.now).state.seen c.new-bytes.result c.new-bytes.ensures;
+}
+
+pub returns-in-Ok-false-clause-fault : goal.returns-in-Ok-false-clause-fault
+returns-in-Ok-false-clause-fault g c = λ is. damage_no_fault _ is
+
+pub returns-in-Ok-false-clause-reads : goal.returns-in-Ok-false-clause-reads
+returns-in-Ok-false-clause-reads g c = reads_on _ _ _ _ _ _ _ _ _ c.loop-page.invariant.reads c.in-Ok-false.ensures.reads
+
+pub returns-in-Err-Disk-clause-exact : goal.returns-in-Err-Disk-clause-exact
+returns-in-Err-Disk-clause-exact g c = some_unit (g.D.Disk.moment c.args.disk.now).state.seen
+
+pub returns-in-Err-Disk-clause-fault : goal.returns-in-Err-Disk-clause-fault
+returns-in-Err-Disk-clause-fault g c =
+    λ is. rose_on _ _ _ c.loop-page.invariant.reads.same.later (c.in-Err-Disk.ensures.fault (ap (λ (e : Stopped). Err e) c.in-Err-Disk.field-0-is))
+
+pub returns-in-Err-Disk-clause-reads : goal.returns-in-Err-Disk-clause-reads
+returns-in-Err-Disk-clause-reads g c = reads_on _ _ _ _ _ _ _ _ _ c.loop-page.invariant.reads c.in-Err-Disk.ensures.reads
+
+pub returns-in-Err-Memory-clause-exact : goal.returns-in-Err-Memory-clause-exact
+returns-in-Err-Memory-clause-exact g c = some_unit (g.D.Disk.moment c.args.disk.now).state.seen
+
+pub returns-in-Err-Memory-clause-fault : goal.returns-in-Err-Memory-clause-fault
+returns-in-Err-Memory-clause-fault g c = λ is. blob_want_no_fault is
+
+pub returns-in-Err-Memory-clause-reads : goal.returns-in-Err-Memory-clause-reads
+returns-in-Err-Memory-clause-reads g c = reads_on _ _ _ _ _ _ _ _ _ c.loop-page.invariant.reads c.in-Err-Memory.ensures.reads
+
+pub returns-clause-exact : goal.returns-clause-exact
+returns-clause-exact g c =
+    blob_done (g.D.Disk.moment c.args.disk.now).state.seen c.args.pages.now c.loop-page.page-index c.args.count c.loop-page.bytes c.truncate.new.self
+    c.loop-page-test.false c.truncate.ensures c.loop-page.invariant.told
 
 pub returns-clause-size : goal.returns-clause-size
 returns-clause-size g c =

@@ -6,12 +6,20 @@ use Rattle.page_chain.specs.Places.{KeepsPages}
 use Rattle.page_chain.specs.Pages.{page_size, page_at, piece_of, HoldsBlob}
 use Rattle.page_chain.specs.Inner.Runs.{Sees}
 use Rattle.page_chain.proofs.Kept.{size_is, one_of}
-use Rattle.page_chain.proofs.RunLemmas.{writes_on, writes_more, sees_on}
-use Rattle.page_chain.proofs.WriteLemmas.{WroteSoFar, wrote_more, wrote_torn, next_rest, blob_piece, length-piece}
+use Rattle.page_chain.proofs.RunLemmas.{writes_none, writes_on, writes_more, sees_self, sees_on}
+use Rattle.page_chain.proofs.WriteLemmas.{WroteSoFar, wrote_none, wrote_more, wrote_all, wrote_torn, first_rest, next_rest, blob_piece, length-piece}
 use Rattle.page_chain.proofs.blob.write_blob.Goals as goal
 
 pub write_page-requires : goal.write_page-requires
 write_page-requires g c = omega (arith, size_is)
+
+pub loop-page-init : goal.loop-page-init
+loop-page-init g c = record {
+  writes = writes_none c.args.pages.now (g.D.Disk.moment c.args.disk.now).state _ _ (g.met.D.Disk.only_now c.args.disk.now);
+  seen = sees_self (g.D.Disk.moment c.args.disk.now).state (WroteSoFar c.args.pages.now (piece_of page_size c.args.bytes.now) 0)
+      (wrote_none c.args.pages.now (piece_of page_size c.args.bytes.now));
+  rest = first_rest page_size c.args.bytes.now;
+}
 
 pub returns-in_err-write_page-clause-writes : goal.returns-in_err-write_page-clause-writes
 returns-in_err-write_page-clause-writes g c =
@@ -51,3 +59,8 @@ loop-page-preserved g c =
           before.writes.same before.seen step.seen;
       rest = next_rest (length c.loop-page.piece) page_size i c.loop-page.rest.now c.put_front-rest.result.now c.args.bytes.now size c.put_front-rest.ensures.rest before.rest;
     }
+
+pub returns-clause-seen : goal.returns-clause-seen
+returns-clause-seen g c =
+    wrote_all c.args.pages.now (piece_of page_size c.args.bytes.now) c.loop-page.page-index
+    (g.D.Disk.moment c.args.disk.now).state (g.D.Disk.moment c.loop-page.disk).state c.loop-page-test.false c.loop-page.invariant.seen

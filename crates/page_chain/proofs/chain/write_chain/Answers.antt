@@ -7,12 +7,20 @@ use Rattle.page_chain.specs.Pages.{page_size, page_at}
 use Rattle.page_chain.specs.Chains.{content_size, chain_piece, HoldsChain}
 use Rattle.page_chain.specs.Inner.Runs.{Sees}
 use Rattle.page_chain.proofs.Kept.{size_is, one_of}
-use Rattle.page_chain.proofs.RunLemmas.{writes_on, writes_more, sees_on}
-use Rattle.page_chain.proofs.WriteLemmas.{WroteSoFar, wrote_more, wrote_torn, next_rest, chain_piece_is, length-chain_piece}
+use Rattle.page_chain.proofs.RunLemmas.{writes_none, writes_on, writes_more, sees_self, sees_on}
+use Rattle.page_chain.proofs.WriteLemmas.{WroteSoFar, wrote_none, wrote_more, wrote_all, wrote_torn, first_rest, next_rest, chain_piece_is, length-chain_piece}
 use Rattle.page_chain.proofs.chain.write_chain.Goals as goal
 
 pub write_page-requires : goal.write_page-requires
 write_page-requires g c = omega (arith, size_is)
+
+pub loop-i-init : goal.loop-i-init
+loop-i-init g c = record {
+  writes = writes_none c.args.pages.now (g.D.Disk.moment c.args.disk.now).state _ _ (g.met.D.Disk.only_now c.args.disk.now);
+  seen = sees_self (g.D.Disk.moment c.args.disk.now).state (WroteSoFar c.args.pages.now (chain_piece page_size c.args.pages.now c.args.bytes.now) 0)
+      (wrote_none c.args.pages.now (chain_piece page_size c.args.pages.now c.args.bytes.now));
+  rest = first_rest (content_size page_size) c.args.bytes.now;
+}
 
 pub returns-in_err-write_page-clause-writes : goal.returns-in_err-write_page-clause-writes
 returns-in_err-write_page-clause-writes g c =
@@ -52,3 +60,8 @@ loop-i-preserved g c =
           before.writes.same before.seen step.seen;
       rest = next_rest (length c.loop-i.piece - 4) (content_size page_size) i c.loop-i.rest.now c.put_linked-rest.result.now c.args.bytes.now (ap (λ (n : ℕ). n - 4) size) c.put_linked-rest.ensures.rest before.rest;
     }
+
+pub returns-clause-seen : goal.returns-clause-seen
+returns-clause-seen g c =
+    wrote_all c.args.pages.now (chain_piece page_size c.args.pages.now c.args.bytes.now) c.loop-i.i
+    (g.D.Disk.moment c.args.disk.now).state (g.D.Disk.moment c.loop-i.disk).state c.loop-i-test.false c.loop-i.invariant.seen

@@ -7,7 +7,7 @@ use Rattle.page_chain.specs.Standing.{gate_place, root_in, OpensAsRoot}
 use Rattle.page_chain.specs.declared.slots.slots.slots.RootSlot.TheVariants as roots
 use Rattle.page_chain.specs.declared.slots.slots.slots.Target.{Target}
 use Rattle.page_file.proofs.Kept.{chain_stays_front, gate_within, root_ready, root_there}
-use Rattle.page_file.proofs.Opened.{unseals, root_open, root_ajar}
+use Rattle.page_file.proofs.Opened.{none_owed, unseals, root_open, root_ajar}
 use Rattle.page_file.proofs.sealing.root_opened.Goals as goal
 
 pub open_slot-requires-clause-ready : goal.open_slot-requires-clause-ready
@@ -35,3 +35,11 @@ returns-in-Err-clause-failed g c =
     (λ bytes x y holds chain torn. chain_stays_front old.slots (gate_of (other old.slots.current.side)) 1 c.args.pages.now bytes x y holds c.requires.apart (gate_within (other old.slots.current.side)) chain
     (subst (λ (t : Target). Torn (gate_place t old.slots) 1 x y) c.requires.target torn))
     (λ seen s was sound d left. root_ajar old.slots new.slots c.args.root seen s (g.D.Disk.moment old.disk).may_leave (g.D.Disk.moment new.disk).may_leave c.requires.written c.requires.sure c.requires.target c.in-Err.ensures.slots was sound d left)
+
+pub returns-in-Ok-clause-failed : goal.returns-in-Ok-clause-failed
+returns-in-Ok-clause-failed g c = λ honest.
+    none_owed (g.D.Disk.moment c.args.file.now.disk).state.seen c.args.file.now.slots (g.D.Disk.moment c.args.file.now.disk).may_leave c.args.pages.now
+
+pub returns-in-Err-clause-done : goal.returns-in-Err-clause-done
+returns-in-Err-clause-done g c = λ honest.
+    none_owed (g.D.Disk.moment c.args.file.now.disk).state.seen c.args.file.now.slots (g.D.Disk.moment c.args.file.now.disk).may_leave c.args.pages.now

@@ -1,4 +1,6 @@
-use Rattle.std.proofs.Common.{◌+◌, length, sym, ◌∙◌}
+use Rattle.std.proofs.Common.{◌+◌, ◌-◌, length, drop, sym, ◌∙◌}
+use Rattle.std.proofs.lemmas.List.Elements.{All-take, All-drop}
+use Rattle.afl_lexer.specs.Tokens.{IsTokenOf}
 use Rattle.schema_grammar.specs.Outcome.{IsSchemaAt, StopsAt}
 use Rattle.schema_grammar.proofs.ShapeAt.{next_at, unexpected_at, whole_at, end_at, one_schema_at, no_stop_at, one_stop_at}
 use Rattle.schema_grammar.proofs.shapes.shape.Goals as goal
@@ -45,3 +47,10 @@ returns-clause-only_schema c schema next r = no_stop_at c.args.text.now c.args.t
 
 pub returns-clause-only_stop : goal.returns-clause-only_stop
 returns-clause-only_stop c at r = one_stop_at c.args.text.now c.args.tokens.now c.args.from _ at (end_of c) r
+
+pub read_shape-requires : goal.read_shape-requires
+read_shape-requires c =
+    let text = c.args.text.now in
+    let behind = drop c.args.from c.args.tokens.now in
+    All-take (IsTokenOf text) (length c.args.tokens.now - c.args.from) behind (All-drop (IsTokenOf text) c.args.from c.args.tokens.now c.requires.tokens)
+    c.loop-offset.offset _ c.loop-offset-test.true

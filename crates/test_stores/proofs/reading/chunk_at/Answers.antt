@@ -1,7 +1,7 @@
 use Rattle.std.proofs.Common.{List, ◌∙◌, IsTrue, sym, subst}
 use Rattle.arrayvec.specs.ArrayVec.{ArrayVec}
 use Rattle.chunk_source.specs.Source.{is_among}
-use Rattle.test_disks.proofs.ReadLemmas.{among_at}
+use Rattle.test_quiet.proofs.ReadLemmas.{among_at}
 use Rattle.test_stores.proofs.Seeing.{chunks_stay}
 use Rattle.test_stores.proofs.reading.chunk_at.Goals as goal
 

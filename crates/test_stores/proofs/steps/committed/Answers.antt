@@ -1,9 +1,10 @@
-use Rattle.std.proofs.Common.{◌≡◌, ◌∙◌, true, false, sym}
+use Rattle.std.proofs.Common.{◌∙◌, sym}
+use Rattle.std.proofs.lemmas.Bool.{false≢true}
 use Rattle.test_stores.proofs.Seeing.{pin_stays}
 use Rattle.test_stores.proofs.steps.committed.Goals as goal
 
 pub commit-requires-clause-told : goal.commit-requires-clause-told
-commit-requires-clause-told g c = λ db began. absurd (let no : false ≡ true = sym c.requires.untold ∙ began.honest in cc)
+commit-requires-clause-told g c = λ db began. absurd (false≢true (sym c.requires.untold ∙ began.honest))
 
 pub given_back-requires-clause-seat : goal.given_back-requires-clause-seat
 given_back-requires-clause-seat g c = (c.in-Ok-Stale.ensures.seat, rw c.in-Ok-Stale.field-0-is at c.in-Ok-Stale.ensures.turn)

@@ -8,7 +8,7 @@ use Rattle.test_threads.proofs.Crossing.{seat_send, shared_sync}
 use Rattle.test_threads.proofs.threads.commit_all.Goals as goal
 
 pub for_each_mut-requires-send-T : goal.for_each_mut-requires-send-T
-for_each_mut-requires-send-T g c κs within = search (sendable, crosses, seat_send) depth 40
+for_each_mut-requires-send-T g c κs within = search (sendable, seat_send) depth 40
 
 pub for_each_mut-requires-sync-F : goal.for_each_mut-requires-sync-F
 for_each_mut-requires-sync-F g c κs within = search (sendable, crosses, shared_sync, global_way.the_sync) depth 40

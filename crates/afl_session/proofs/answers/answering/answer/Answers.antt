@@ -18,3 +18,15 @@ returns g c =
       reads = λ t derives accepted. still_read moment c.args.shared.now reply.place seat c.keep_last.new.self k (session_of c.args.seat) (seen c.args.seat) c.args.text.now t (read_count c.args.seat)
           (e.reads t derives accepted);
     }
+
+pub answer_text-reply-requires-clause-seat : goal.answer_text-reply-requires-clause-seat
+answer_text-reply-requires-clause-seat g c κs within = c.requires.seat
+
+pub answer_text-reply-requires-clause-none : goal.answer_text-reply-requires-clause-none
+answer_text-reply-requires-clause-none g c κs within = c.requires.none
+
+pub answer_text-reply-requires-clause-length : goal.answer_text-reply-requires-clause-length
+answer_text-reply-requires-clause-length g c κs within = c.requires.length
+
+pub answer_text-reply-requires-clause-workers : goal.answer_text-reply-requires-clause-workers
+answer_text-reply-requires-clause-workers g c κs within = c.requires.workers

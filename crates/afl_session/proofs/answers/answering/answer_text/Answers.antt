@@ -49,3 +49,12 @@ returns-in-Err-Memory g c =
       reads = λ t derives accepted. want_reads_none c.args.options.now.style g.D.Disk.moment (start g.D.Disk.moment c.args.shared.now) (session_of c.args.seat) (last_place c.args.seat) (seen c.args.seat)
           c.args.text.now c.want.result e.want t (read_count c.args.seat) (read_count c.args.seat) accepted;
     }
+
+pub answer_tree-answer-requires-clause-seat : goal.answer_tree-answer-requires-clause-seat
+answer_tree-answer-requires-clause-seat g c κs within = c.requires.seat
+
+pub answer_tree-answer-requires-clause-none : goal.answer_tree-answer-requires-clause-none
+answer_tree-answer-requires-clause-none g c κs within = c.requires.none
+
+pub answer_tree-answer-requires-clause-workers : goal.answer_tree-answer-requires-clause-workers
+answer_tree-answer-requires-clause-workers g c κs within = c.requires.workers

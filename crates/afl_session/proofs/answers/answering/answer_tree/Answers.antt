@@ -64,3 +64,33 @@ returns-in-Err-Memory g c =
       reads = want_reads c.args.options.now.style g.D.Disk.moment (start g.D.Disk.moment c.args.shared.now) (session_of c.args.seat) (seen c.args.seat) (seen c.pin.new.seat) c.args.text.now c.args.tree.now
           c.want.result e.err w.want (read_count c.args.seat) (read_count c.pin.new.seat);
     }
+
+pub pin-requires-clause-seat : goal.pin-requires-clause-seat
+pin-requires-clause-seat g c = c.requires.seat
+
+pub pin-requires-clause-none : goal.pin-requires-clause-none
+pin-requires-clause-none g c = c.requires.none
+
+pub answer_pinned-reply-requires-clause-seat : goal.answer_pinned-reply-requires-clause-seat
+answer_pinned-reply-requires-clause-seat g c κs within = c.in-Ok.ensures.seat
+
+pub answer_pinned-reply-requires-clause-pin : goal.answer_pinned-reply-requires-clause-pin
+answer_pinned-reply-requires-clause-pin g c κs within = c.in-Ok.ensures.open
+
+pub answer_pinned-reply-requires-clause-stored : goal.answer_pinned-reply-requires-clause-stored
+answer_pinned-reply-requires-clause-stored g c κs within = c.in-Ok.ensures.stored
+
+pub answer_pinned-reply-requires-clause-database : goal.answer_pinned-reply-requires-clause-database
+answer_pinned-reply-requires-clause-database g c κs within = c.in-Ok.ensures.database
+
+pub answer_pinned-reply-requires-clause-fit : goal.answer_pinned-reply-requires-clause-fit
+answer_pinned-reply-requires-clause-fit g c κs within = c.requires.fit
+
+pub answer_pinned-reply-requires-clause-workers : goal.answer_pinned-reply-requires-clause-workers
+answer_pinned-reply-requires-clause-workers g c κs within = c.requires.workers
+
+pub unpin-requires-clause-seat : goal.unpin-requires-clause-seat
+unpin-requires-clause-seat g c = c.answer_pinned-reply.ensures.seat
+
+pub unpin-requires-clause-pin : goal.unpin-requires-clause-pin
+unpin-requires-clause-pin g c = c.answer_pinned-reply.ensures.pin

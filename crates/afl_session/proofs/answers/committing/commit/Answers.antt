@@ -101,3 +101,9 @@ returns-in-Err g c =
           a o (pin_within began old c.args.pinned.now o) (named_behind moment began old c.args.pinned.now o r.database) r.typed e.err c.in-Err.fault
           (subst (λ count. IsUncommittedReply count c.in-Err.fault c.uncommitted.result) (c.seen-seen.ensures ∙ e.seat.counts) c.uncommitted.ensures) e.cause;
     }
+
+pub answer_held-requires-clause-fit : goal.answer_held-requires-clause-fit
+answer_held-requires-clause-fit g c κs within = c.requires.fit
+
+pub answer_held-requires-clause-workers : goal.answer_held-requires-clause-workers
+answer_held-requires-clause-workers g c κs within = c.requires.workers

@@ -119,3 +119,24 @@ returns-in-Ok-Changes g c =
           (change_counts style moment c.args.shared.now c.args.pinned.now c.args.seat seat c.args.text.now c.args.tree.now r.database
           c.in-Ok-Changes.change c.in-Ok-Changes.changed c.in-Ok-Changes.reply w);
     }
+
+pub read_under-outcome-requires-clause-seat : goal.read_under-outcome-requires-clause-seat
+read_under-outcome-requires-clause-seat g c κs within = c.requires.seat
+
+pub read_under-outcome-requires-clause-pin : goal.read_under-outcome-requires-clause-pin
+read_under-outcome-requires-clause-pin g c κs within = c.requires.pin
+
+pub read_under-outcome-requires-clause-stored : goal.read_under-outcome-requires-clause-stored
+read_under-outcome-requires-clause-stored g c κs within = c.requires.stored
+
+pub read_under-outcome-requires-clause-fit : goal.read_under-outcome-requires-clause-fit
+read_under-outcome-requires-clause-fit g c κs within = c.requires.fit
+
+pub read_under-outcome-requires-clause-workers : goal.read_under-outcome-requires-clause-workers
+read_under-outcome-requires-clause-workers g c κs within = c.requires.workers
+
+pub commit-requires-clause-fit : goal.commit-requires-clause-fit
+commit-requires-clause-fit g c κs within = c.requires.fit
+
+pub commit-requires-clause-workers : goal.commit-requires-clause-workers
+commit-requires-clause-workers g c κs within = c.requires.workers

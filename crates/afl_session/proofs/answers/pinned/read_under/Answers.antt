@@ -18,3 +18,12 @@ returns g c =
       read = was_read c.args.options.now.style g.D.Disk.moment c.args.shared.now c.args.pinned.now c.args.seat c.into_seat-seat.result c.args.text.now c.args.tree.now
           c.new-source.result c.outcome_of-outcome.new.source c.new-source.ensures e.start s.seat c.outcome_of-outcome.result s.read e.kind e.told e.asked e.cause e.allowed;
     }
+
+pub outcome_of-outcome-requires-clause-fit : goal.outcome_of-outcome-requires-clause-fit
+outcome_of-outcome-requires-clause-fit g c κs within = c.requires.fit
+
+pub outcome_of-outcome-requires-clause-stored : goal.outcome_of-outcome-requires-clause-stored
+outcome_of-outcome-requires-clause-stored g c κs within = c.requires.stored
+
+pub outcome_of-outcome-requires-clause-workers : goal.outcome_of-outcome-requires-clause-workers
+outcome_of-outcome-requires-clause-workers g c κs within = c.requires.workers

@@ -5,7 +5,7 @@ use Rattle.snapshot_manager.specs.Seats.{last_place, seen, session_of, start}
 use Rattle.afl_session.specs.Marked.{IsMarked}
 use Rattle.afl_session.specs.Session.{Serves}
 use Rattle.run_opening.specs.declared.reports.reports.SessionEnd.{SessionEnd}
-use Rattle.afl_session.proofs.ScriptsEnding.{nothing_yet, serves_early, serves_stopped, serves_whole}
+use Rattle.afl_session.proofs.ScriptsEnding.{nothing_yet, read_short, serves_early, serves_stopped, serves_whole}
 use Rattle.afl_session.proofs.scripts.session.converse.Goals as goal
 
 pub pieces-init : goal.pieces-init
@@ -53,3 +53,8 @@ returns-in-Err-clause-serves g c =
     let risen = c.in-Err.ensures.cause in
     let rose : Rose (g.S.Source.state c.args.source.now).faults (g.S.Source.state c.read.new.self).faults = omega (arith, later, risen) in
     serves_early (IsMarked c.args.options.now.style g.D.Disk.moment (start g.D.Disk.moment c.args.shared.now) (session_of c.args.seat)) _ _ _ _ _ read _ (Gives-more _ _ _ _ _ given c.in-Err.ensures.bytes) rose serving
+
+pub take_bytes-taken-requires-clause-script : goal.take_bytes-taken-requires-clause-script
+take_bytes-taken-requires-clause-script g c κs within =
+    let (read, given, serving) = c.pieces.invariant.serving in
+    (read, serving.stands, read_short _ _ _ read _ given c.in-Ok.ensures.bytes c.in-Ok.ensures.bound)

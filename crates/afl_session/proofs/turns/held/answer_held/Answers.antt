@@ -47,3 +47,9 @@ returns g c =
           c.is_at-2.ensures.ledger c.is_at-2.ensures.counted c.end_turn.new.seat end.seen
           r.change.0 r.change.1;
     }
+
+pub answer_in_turn-reply-requires-clause-fit : goal.answer_in_turn-reply-requires-clause-fit
+answer_in_turn-reply-requires-clause-fit g c κs within = c.requires.fit
+
+pub answer_in_turn-reply-requires-clause-workers : goal.answer_in_turn-reply-requires-clause-workers
+answer_in_turn-reply-requires-clause-workers g c κs within = c.requires.workers

@@ -45,3 +45,9 @@ returns-in-Err g c =
       keeps = keeps_same moment c.args.session c.args.turn (turn_with c.args.turn c.value-store.result.now) (ap (turn_with c.args.turn) e);
       goes = goes_short (ap (standing moment) e) c.want.ensures.want (c.want.ensures.place ∙ ap length c.history.ensures);
     }
+
+pub answer_over-requires-clause-fit : goal.answer_over-requires-clause-fit
+answer_over-requires-clause-fit g c κs within = c.requires.fit
+
+pub answer_over-requires-clause-workers : goal.answer_over-requires-clause-workers
+answer_over-requires-clause-workers g c κs within = c.requires.workers

@@ -82,3 +82,12 @@ returns-in-Err g c =
           (subst (λ x. IsRead style moment c.args.session c.args.turn new c.args.text.now c.args.tree.now x) arm.is read)
           c.unread.ensures.words (c.unread.ensures.place ∙ ap length c.history.ensures);
     }
+
+pub outcome_of-outcome-requires-clause-fit : goal.outcome_of-outcome-requires-clause-fit
+outcome_of-outcome-requires-clause-fit g c κs within = c.requires.fit
+
+pub outcome_of-outcome-requires-clause-stored : goal.outcome_of-outcome-requires-clause-stored
+outcome_of-outcome-requires-clause-stored g c κs within = c.requires.stored
+
+pub outcome_of-outcome-requires-clause-workers : goal.outcome_of-outcome-requires-clause-workers
+outcome_of-outcome-requires-clause-workers g c κs within = c.requires.workers

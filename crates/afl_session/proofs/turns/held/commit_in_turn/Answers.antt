@@ -1,8 +1,9 @@
-use Rattle.std.proofs.Common.{◌≡◌, ◌∙◌, ap, length, subst}
+use Rattle.std.proofs.Common.{◌≡◌, ◌∙◌, ap, length, subst, sym}
 use Rattle.store_state.specs.At.{standing}
 use Rattle.store_state.specs.Events.{events}
 use Rattle.snapshot_manager.specs.Starts.{start_of}
 use Rattle.snapshot_manager.proofs.TriedTurns.{commit_extends, commit_start}
+use Rattle.snapshot_manager.specs.Prepared.{IsAsked}
 use Rattle.afl_session.specs.Inner.Turns.{store_in, IsTried, TellsCommit}
 use Rattle.afl_session.proofs.turns.held.commit_in_turn.Goals as goal
 
@@ -36,3 +37,7 @@ returns-clause-tried g c =
       cause = answer.cause;
       tells = subst (λ count. TellsCommit count c.args.words c.commit-answer.result c.tell_commit.result) (ap length c.history.ensures) c.tell_commit.ensures;
     })
+
+pub commit-answer-requires-clause-asked : goal.commit-answer-requires-clause-asked
+commit-answer-requires-clause-asked g c =
+    subst (λ p. IsAsked g.D.Disk.moment (standing g.D.Disk.moment p) c.args.change c.args.changed) (sym c.value-store.ensures.value) c.requires.asked

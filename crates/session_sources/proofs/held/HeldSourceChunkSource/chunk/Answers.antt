@@ -1,10 +1,10 @@
-use Rattle.std.proofs.Common.{IfOk, IsTrue, subst, sym, ap, refl}
+use Rattle.std.proofs.Common.{◌≡◌, IfOk, IsTrue, subst, sym, ap, refl}
 use Rattle.chunk_source.specs.Source.{is_among, listed, AsksFor, Blames, IsChunkIn, IsStored, Keeps}
 use Rattle.logical_plan.specs.Meaning.{Database as Rows}
 use Rattle.snapshot_manager.specs.Calls.{IsLeafOf}
 use Rattle.turn_lock.specs.Inner.Lent.{turn_with}
 use Rattle.session_sources.specs.declared.marks.Marks.{Marks}
-use Rattle.session_sources.specs.Held.{held_state, names_now, store_then}
+use Rattle.session_sources.specs.Held.{held_state, names_now, store_then, HasHeld}
 use Rattle.session_sources.proofs.Answering.{asks_by, blames, marked, ok_answer, with_asked}
 use Rattle.session_sources.proofs.HeldSteps.{chunk_leaf, chunks_then, holding, in_hand, keeps_source, leaf_now, lent_of, pinned_now, read_keeps, told_then}
 use Rattle.session_sources.proofs.held.HeldSourceChunkSource.chunk.Goals as goal
@@ -93,3 +93,13 @@ returns-clause-cause g c =
     (blames c.read_now-answer.result c.answer.result (held_state moment (holding lent i.turn i.marks))
     (held_state moment (holding lent after c.answer.new.self)) (with_asked c.args.number c.args.at.now i.marks) c.answer.ensures.answer
     refl refl (ap (λ (x : Marks). x.damaged) m.is) (ap (λ (x : Marks). x.faults) m.is))
+
+pub invariant_of-self : goal.invariant_of-self
+invariant_of-self g c =
+    let i = c.self.inside in
+    subst (λ m. HasHeld g.D.Disk.moment (holding (lent_of i.session i.lent.value) i.turn m)) (sym c.in_err-ask.ensures.err) c.self.invariant
+
+pub returns-clause-start : goal.returns-clause-start
+returns-clause-start g c =
+    let i = c.self.inside in
+    subst (λ h. lent_of i.session i.lent.value ≡ h.lent) c.self.view_is refl

@@ -1,9 +1,11 @@
-use Rattle.std.proofs.Common.{◌≡◌, ◌∙◌, subst, sym}
-use Rattle.chunk_source.specs.Source.{listed, AreNumbersIn}
+use Rattle.std.proofs.Common.{◌≡◌, ◌∙◌, refl, subst, sym}
+use Rattle.chunk_source.specs.Source.{listed, AreNumbersIn, Keeps}
 use Rattle.logical_plan.specs.Meaning.{Database as Rows}
 use Rattle.snapshot_manager.specs.Calls.{IsLeafOf}
+use Rattle.turn_lock.specs.Inner.Lent.{turn_with}
 use Rattle.session_sources.specs.Held.{held_state, names_now, store_then}
-use Rattle.session_sources.proofs.HeldSteps.{chunks_then, in_hand, leaf_now, lent_of, listed_leaf, rows_then}
+use Rattle.session_sources.proofs.Answering.{no_numbers, same_le}
+use Rattle.session_sources.proofs.HeldSteps.{chunks_then, holding, in_hand, keeps_source, leaf_now, lent_of, listed_leaf, rows_then}
 use Rattle.session_sources.proofs.held.HeldSourceChunkSource.listed.Goals as goal
 
 pub listed_now-requires : goal.listed_now-requires
@@ -43,3 +45,21 @@ returns-clause-told g c =
     subst (λ h. (rows : Rows) → (held_state moment h).tells rows → AreNumbersIn rows c.args.leaf.now c.in_ok-chunks.chunks) c.self.view_is
     (rows_then moment (lent_of i.session i.lent.value) i.turn c.value.result.now i.marks was
     (λ rows. AreNumbersIn rows c.args.leaf.now c.in_ok-chunks.chunks) c.in_ok-chunks.ensures.told)
+
+pub returns-clause-kept : goal.returns-clause-kept
+returns-clause-kept g c =
+    let moment = g.D.Disk.moment in
+    let i = c.self.inside in
+    let lent = lent_of i.session i.lent.value in
+    let after = turn_with i.turn c.value.result.now in
+    subst (λ h. Keeps (held_state moment h) (held_state moment (holding lent after i.marks))) c.self.view_is
+    (keeps_source moment lent i.turn after i.marks i.marks (same_le i.marks.faults))
+
+pub returns-clause-start : goal.returns-clause-start
+returns-clause-start g c =
+    let i = c.self.inside in
+    subst (λ h. lent_of i.session i.lent.value ≡ h.lent) c.self.view_is refl
+
+pub returns-then-leaf-eq0-clause-told : goal.returns-then-leaf-eq0-clause-told
+returns-then-leaf-eq0-clause-told g c =
+    λ rows tells. subst (λ numbers. AreNumbersIn rows c.args.leaf.now numbers) (sym c.new.ensures) (no_numbers rows c.args.leaf.now c.if-leaf-eq0.true)

@@ -1,9 +1,9 @@
-use Rattle.std.proofs.Common.{IfOk, IsTrue, subst, sym, ap, refl}
+use Rattle.std.proofs.Common.{◌≡◌, IfOk, IsTrue, subst, sym, ap, refl}
 use Rattle.chunk_source.specs.Source.{is_among, listed, AsksFor, Blames, IsChunkIn, IsStored, Keeps}
 use Rattle.logical_plan.specs.Meaning.{Database as Rows}
 use Rattle.snapshot_manager.specs.Calls.{IsLeafOf}
 use Rattle.session_sources.specs.declared.marks.Marks.{Marks}
-use Rattle.session_sources.specs.Pinned.{pinned_state}
+use Rattle.session_sources.specs.Pinned.{pinned_state, HasRead}
 use Rattle.session_sources.proofs.Answering.{asks_by, blames, marked, ok_answer, with_asked}
 use Rattle.session_sources.proofs.PinnedSteps.{chunk_leaf, chunks_lent, keeps_source, lent_of, read_keeps, reading, told_lent}
 use Rattle.session_sources.proofs.pinned.PinnedSourceChunkSource.chunk.Goals as goal
@@ -74,3 +74,13 @@ returns-clause-cause g c =
     (blames c.read_chunk-answer.result c.answer.result (pinned_state moment (reading lent i.seat i.marks))
     (pinned_state moment (reading lent c.read_chunk-answer.new.seat c.answer.new.self)) (with_asked c.args.number c.args.at.now i.marks) c.answer.ensures.answer
     refl refl (ap (λ (x : Marks). x.damaged) m.is) (ap (λ (x : Marks). x.faults) m.is))
+
+pub invariant_of-self : goal.invariant_of-self
+invariant_of-self g c =
+    let i = c.self.inside in
+    subst (λ m. HasRead g.D.Disk.moment (reading (lent_of i.shared.now i.pinned.now i.lent.value) i.seat m)) (sym c.in_err-ask.ensures.err) c.self.invariant
+
+pub returns-clause-start : goal.returns-clause-start
+returns-clause-start g c =
+    let i = c.self.inside in
+    subst (λ r. lent_of i.shared.now i.pinned.now i.lent.value ≡ r.lent) c.self.view_is refl

@@ -2,7 +2,7 @@ use Rattle.std.proofs.Common.{List, IsTrue, sym, subst}
 use Rattle.arrayvec.specs.ArrayVec.{ArrayVec}
 use Rattle.chunk_source.specs.Source.{is_among}
 use Rattle.test_disks.proofs.Holding.{notes_leave_all, notes_leave_open}
-use Rattle.test_disks.proofs.ReadLemmas.{among_at, read_at}
+use Rattle.test_quiet.proofs.ReadLemmas.{among_at, read_at}
 use Rattle.test_disks.proofs.readings.reading.chunk_at.Goals as goal
 
 pub read_chunk-requires-clause-listed : goal.read_chunk-requires-clause-listed

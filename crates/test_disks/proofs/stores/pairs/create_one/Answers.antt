@@ -1,6 +1,5 @@
 use Rattle.std.proofs.Common.{refl, subst, sym}
 use Rattle.test_disks.specs.Holds.{IsHold}
-use Rattle.test_disks.specs.declared.stores.holds.Hold.TheVariants as hold
 use Rattle.test_disks.proofs.stores.pairs.create_one.Goals as goal
 
 pub once-requires-after_bounds : goal.once-requires-after_bounds

@@ -1,4 +1,3 @@
-use Rattle.std.proofs.Common.{subst, sym}
 use Rattle.test_disks.proofs.Pairs.{pair_outlasts}
 use Rattle.test_disks.proofs.stores.pairs.push_counts.Goals as goal
 

@@ -3,7 +3,7 @@ use Rattle.store_ledger.specs.Ledger.{is_tried}
 use Rattle.store_state.specs.At.{standing}
 use Rattle.test_disks.proofs.Holding.{begun_is_untried, pin_leaves, same_leaves_all}
 use Rattle.test_disks.specs.Holds.{IsHold}
-use Rattle.test_disks.specs.declared.stores.holds.Hold.TheVariants as hold
+use Rattle.test_quiet.specs.declared.holds.Hold.TheVariants as hold
 use Rattle.test_disks.proofs.stores.pins.pinned.Goals as goal
 
 pub returns-in-Ok-clause-own : goal.returns-in-Ok-clause-own

@@ -1,8 +1,11 @@
-use Rattle.std.proofs.Common.{length, IfErr, sym, subst, ap}
-use Rattle.store_opening.specs.At.{standing}
-use Rattle.store_opening.specs.Calls.{IsUnread, payload_at}
+use Rattle.std.proofs.Common.{length, IfErr, sym, subst, ap, ◌≡◌, IfOk}
+use Rattle.store_opening.specs.At.{standing, keeping}
+use Rattle.store_opening.specs.Calls.{IsUnread, payload_at, NotesFault}
 use Rattle.store_opening.specs.Payloads.{HasTold, WasDamagedAt}
-use Rattle.store_opening.specs.Standings.{BeganAs}
+use Rattle.store_opening.specs.Standings.{BeganAs, database_at}
+use Rattle.chunk_source.specs.Source.{IsChunkIn}
+use Rattle.page_chain.specs.Inner.Runs.{OnlyReads}
+use Rattle.plan_changes.specs.Databases.{Database, rows_of}
 use Rattle.array_store.proofs.Added.{adds_fault}
 use Rattle.array_store.proofs.Going.{moves}
 use Rattle.array_store.proofs.store.store.Store.read_now.Goals as goal
@@ -33,3 +36,28 @@ pub invariant_of-self : goal.invariant_of-self
 invariant_of-self g c =
     let moment = g.D.Disk.moment in
     moves moment c.self.inside.parts c.read_now.new.parts c.self.invariant c.read_now.ensures.at (ap (λ s. s.opened) c.read_now.ensures.same) c.read_now.ensures.reads.same
+
+pub returns-clause-reads : goal.returns-clause-reads
+returns-clause-reads g c =
+    let moment = g.D.Disk.moment in
+    subst (λ parts. OnlyReads (moment parts.file.disk) (moment c.read_now.new.parts.file.disk)) c.self.view_is c.read_now.ensures.reads
+
+pub returns-clause-same : goal.returns-clause-same
+returns-clause-same g c =
+    let moment = g.D.Disk.moment in
+    subst (λ parts. standing moment c.read_now.new.parts ≡ record (standing moment parts) { disk = c.read_now.new.parts.file.disk; ledger = c.read_now.new.parts.ledger }) c.self.view_is c.read_now.ensures.same
+
+pub returns-clause-kept : goal.returns-clause-kept
+returns-clause-kept g c =
+    subst (λ parts. keeping c.read_now.new.parts ≡ keeping parts) c.self.view_is c.read_now.ensures.kept
+
+pub returns-clause-told : goal.returns-clause-told
+returns-clause-told g c =
+    let moment = g.D.Disk.moment in
+    subst (λ parts. IfOk c.read_now.result (λ chunk. (db : Database) → BeganAs (moment parts.opened.value.disk).state db
+    → IsChunkIn (rows_of (database_at db (standing moment parts))) c.args.leaf.now chunk)) c.self.view_is c.read_now.ensures.told
+
+pub returns-clause-notes : goal.returns-clause-notes
+returns-clause-notes g c =
+    let moment = g.D.Disk.moment in
+    subst (λ parts. NotesFault (moment parts.file.disk).state (moment c.read_now.new.parts.file.disk).state c.args.session parts.ledger c.read_now.new.parts.ledger) c.self.view_is c.read_now.ensures.notes

@@ -34,3 +34,13 @@ returns-in-Err-clause-opens g c =
     always_opens c.args.slots.now (c.args.slots.now) (entry_gate c.args.slots.now) 1 (g.D.Disk.moment c.args.disk.now).state (g.D.Disk.moment c.put.new.disk).state (g.D.Disk.moment c.args.disk.now).left_since (g.D.Disk.moment c.put.new.disk).left_since (g.D.Disk.moment c.args.disk.now).may_leave (g.D.Disk.moment c.put.new.disk).may_leave
     (puts_at (c.entry_gate-place.result) (entry_gate c.args.slots.now) (length {A = ℕ} (0 ∷ [])) 1 (g.D.Disk.moment c.args.disk.now).state (g.D.Disk.moment c.put.new.disk).state (g.D.Disk.moment c.args.disk.now).left_since (g.D.Disk.moment c.put.new.disk).left_since (g.D.Disk.moment c.args.disk.now).may_leave (g.D.Disk.moment c.put.new.disk).may_leave at (refl) c.put.ensures.writes)
     (λ seen sound. close_opens c.args.slots.now c.requires.target c.requires.there seen (g.D.Disk.moment c.args.disk.now).may_leave c.requires.ajar sound)
+
+pub returns-in-Ok-clause-writes : goal.returns-in-Ok-clause-writes
+returns-in-Ok-clause-writes g c =
+    let at : c.entry_gate-place.result ≡ entry_gate c.args.slots.now = c.entry_gate-place.ensures in
+    puts_at c.entry_gate-place.result (entry_gate c.args.slots.now) (length {A = ℕ} (0 ∷ [])) 1 _ _ _ _ _ _ at refl c.put.ensures.writes
+
+pub returns-in-Err-clause-writes : goal.returns-in-Err-clause-writes
+returns-in-Err-clause-writes g c =
+    let at : c.entry_gate-place.result ≡ entry_gate c.args.slots.now = c.entry_gate-place.ensures in
+    puts_at c.entry_gate-place.result (entry_gate c.args.slots.now) (length {A = ℕ} (0 ∷ [])) 1 _ _ _ _ _ _ at refl c.put.ensures.writes

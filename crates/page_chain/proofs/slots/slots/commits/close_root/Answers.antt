@@ -36,3 +36,13 @@ returns-in-Err-clause-opens g c =
     always_opens c.args.slots.now (c.args.slots.now) (gate_of (other c.args.slots.now.current.side)) 1 (g.D.Disk.moment c.args.disk.now).state (g.D.Disk.moment c.put.new.disk).state (g.D.Disk.moment c.args.disk.now).left_since (g.D.Disk.moment c.put.new.disk).left_since (g.D.Disk.moment c.args.disk.now).may_leave (g.D.Disk.moment c.put.new.disk).may_leave
     (puts_at (c.gate-place.result) (gate_of (other c.args.slots.now.current.side)) (length {A = ℕ} (0 ∷ [])) 1 (g.D.Disk.moment c.args.disk.now).state (g.D.Disk.moment c.put.new.disk).state (g.D.Disk.moment c.args.disk.now).left_since (g.D.Disk.moment c.put.new.disk).left_since (g.D.Disk.moment c.args.disk.now).may_leave (g.D.Disk.moment c.put.new.disk).may_leave at (refl) c.put.ensures.writes)
     (λ seen sound. close_opens c.args.slots.now seen (g.D.Disk.moment c.args.disk.now).may_leave c.requires.ajar sound)
+
+pub returns-in-Ok-clause-writes : goal.returns-in-Ok-clause-writes
+returns-in-Ok-clause-writes g c =
+    let at : c.gate-place.result ≡ gate_of (other c.args.slots.now.current.side) = c.gate-place.ensures ∙ ap (λ (s : Side). gate_of s) c.other.ensures in
+    puts_at c.gate-place.result (gate_of (other c.args.slots.now.current.side)) (length {A = ℕ} (0 ∷ [])) 1 _ _ _ _ _ _ at refl c.put.ensures.writes
+
+pub returns-in-Err-clause-writes : goal.returns-in-Err-clause-writes
+returns-in-Err-clause-writes g c =
+    let at : c.gate-place.result ≡ gate_of (other c.args.slots.now.current.side) = c.gate-place.ensures ∙ ap (λ (s : Side). gate_of s) c.other.ensures in
+    puts_at c.gate-place.result (gate_of (other c.args.slots.now.current.side)) (length {A = ℕ} (0 ∷ [])) 1 _ _ _ _ _ _ at refl c.put.ensures.writes

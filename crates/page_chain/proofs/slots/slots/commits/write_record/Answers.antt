@@ -33,3 +33,13 @@ returns-in-Err-clause-opens g c =
     always_opens c.args.slots.now (record (c.args.slots.now) { next = entries.Closed }) (entry_gate c.args.slots.now + 8) 12 (g.D.Disk.moment c.args.disk.now).state (g.D.Disk.moment c.put.new.disk).state (g.D.Disk.moment c.args.disk.now).left_since (g.D.Disk.moment c.put.new.disk).left_since (g.D.Disk.moment c.args.disk.now).may_leave (g.D.Disk.moment c.put.new.disk).may_leave
     (puts_at (c.entry_gate-place.result + 8) (entry_gate c.args.slots.now + 8) (length c.record_body.result) 12 (g.D.Disk.moment c.args.disk.now).state (g.D.Disk.moment c.put.new.disk).state (g.D.Disk.moment c.args.disk.now).left_since (g.D.Disk.moment c.put.new.disk).left_since (g.D.Disk.moment c.args.disk.now).may_leave (g.D.Disk.moment c.put.new.disk).may_leave at (c.record_body.ensures.size) c.put.ensures.writes)
     (λ seen sound. write_opens c.args.slots.now c.requires.target c.requires.there seen (g.D.Disk.moment c.args.disk.now).may_leave c.requires.closed c.requires.sure sound)
+
+pub returns-in-Ok-clause-writes : goal.returns-in-Ok-clause-writes
+returns-in-Ok-clause-writes g c =
+    let at : c.entry_gate-place.result + 8 ≡ entry_gate c.args.slots.now + 8 = ap (λ (m : ℕ). m + 8) c.entry_gate-place.ensures in
+    puts_at (c.entry_gate-place.result + 8) (entry_gate c.args.slots.now + 8) (length c.record_body.result) 12 _ _ _ _ _ _ at c.record_body.ensures.size c.put.ensures.writes
+
+pub returns-in-Err-clause-writes : goal.returns-in-Err-clause-writes
+returns-in-Err-clause-writes g c =
+    let at : c.entry_gate-place.result + 8 ≡ entry_gate c.args.slots.now + 8 = ap (λ (m : ℕ). m + 8) c.entry_gate-place.ensures in
+    puts_at (c.entry_gate-place.result + 8) (entry_gate c.args.slots.now + 8) (length c.record_body.result) 12 _ _ _ _ _ _ at c.record_body.ensures.size c.put.ensures.writes

@@ -37,3 +37,13 @@ returns-in-Err-clause-opens g c =
     always_opens c.args.slots.now (record (c.args.slots.now) { other = roots.Closed }) (body_of (other c.args.slots.now.current.side)) 24 (g.D.Disk.moment c.args.disk.now).state (g.D.Disk.moment c.put.new.disk).state (g.D.Disk.moment c.args.disk.now).left_since (g.D.Disk.moment c.put.new.disk).left_since (g.D.Disk.moment c.args.disk.now).may_leave (g.D.Disk.moment c.put.new.disk).may_leave
     (puts_at c.body-at.result (body_of (other c.args.slots.now.current.side)) (length c.root_body.result) 24 _ _ _ _ _ _ at c.root_body.ensures.size c.put.ensures.writes)
     (λ seen sound. body_opens c.args.slots.now seen (g.D.Disk.moment c.args.disk.now).may_leave c.requires.closed sound)
+
+pub returns-in-Ok-clause-writes : goal.returns-in-Ok-clause-writes
+returns-in-Ok-clause-writes g c =
+    let at : c.body-at.result ≡ body_of (other c.args.slots.now.current.side) = c.body-at.ensures ∙ ap (λ (s : Side). body_of s) c.other.ensures in
+    puts_at c.body-at.result (body_of (other c.args.slots.now.current.side)) (length c.root_body.result) 24 _ _ _ _ _ _ at c.root_body.ensures.size c.put.ensures.writes
+
+pub returns-in-Err-clause-writes : goal.returns-in-Err-clause-writes
+returns-in-Err-clause-writes g c =
+    let at : c.body-at.result ≡ body_of (other c.args.slots.now.current.side) = c.body-at.ensures ∙ ap (λ (s : Side). body_of s) c.other.ensures in
+    puts_at c.body-at.result (body_of (other c.args.slots.now.current.side)) (length c.root_body.result) 24 _ _ _ _ _ _ at c.root_body.ensures.size c.put.ensures.writes

@@ -1,4 +1,5 @@
 use Rattle.std.proofs.Common.{◌∙◌, ap, false, length, replicate}
+use Rattle.std.proofs.lemmas.List.{length-replicate}
 use Rattle.event_core.proofs.Reaping.{unmarked}
 use Rattle.store_versions.proofs.lean.lean.state.LeanCore.count_unused.Goals as goal
 
@@ -6,3 +7,6 @@ pub returns-clause-count : goal.returns-clause-count
 returns-clause-count c =
     c.free_of.ensures
     ∙ ap length (unmarked c.args.self.now.core c.clear.new.self c.mark_live.new.set (c.clear.ensures ∙ ap (λ n. replicate n false) c.requires) c.mark_live.ensures.limit c.mark_live.ensures.pages)
+
+pub returns-clause-limit : goal.returns-clause-limit
+returns-clause-limit c = c.mark_live.ensures.limit ∙ ap length c.clear.ensures ∙ length-replicate (length c.args.set.now) false

@@ -1,0 +1,9 @@
+use Rattle.chunk_map.specs.declared.directory.DirEntry.{DirEntry}
+use Rattle.commit_pages.proofs.Loops.{flat_more}
+use Rattle.commit_pages.proofs.pages.version.push_pages.Goals as goal
+
+pub loop-entry-preserved : goal.loop-entry-preserved
+loop-entry-preserved c =
+    let l = c.loop-entry in
+    flat_more c.args.entries.now l.entry-index c.entry-item.result c.loop-entry-test.true c.entry-item.is (λ (entry : DirEntry). entry.pages) c.args.pages.now l.pages
+    c.extend.new.self c.as_slice.result.now l.invariant c.as_slice.ensures c.in_ok-extend.ensures.ok

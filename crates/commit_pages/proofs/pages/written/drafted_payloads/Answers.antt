@@ -1,0 +1,19 @@
+use Rattle.std.proofs.Common.{◌<◌, ◌^◌, length}
+use Rattle.array_geom.specs.declared.chunk.Chunk.{Chunk}
+use Rattle.chunk_rle.specs.Chunks.{spelling}
+use Rattle.page_file.specs.declared.commits.placed.Placed.{Placed}
+use Rattle.commit_pages.specs.Versions.{drafted}
+use Rattle.commit_pages.proofs.Loops.{all_more, map_more}
+use Rattle.commit_pages.proofs.pages.written.drafted_payloads.Goals as goal
+
+pub loop-chunk-preserved : goal.loop-chunk-preserved
+loop-chunk-preserved c =
+    let l = c.loop-chunk in
+    let one = c.in_ok-drafted_payload.field-0 in
+    record {
+      made = map_more c.args.chunks.now l.chunk-index c.chunk-item.result c.loop-chunk-test.true c.chunk-item.is
+          (λ (chunk : Chunk). drafted (spelling c.args.schema.now.attributes chunk)) l.payloads c.push.new.self one l.invariant.made
+          c.in_ok-drafted_payload.ensures.drafted c.in_ok-push.ensures.ok;
+      short = all_more (λ (one : Placed). length one.bytes < 2 ^ 64) l.payloads c.push.new.self one l.invariant.short c.in_ok-drafted_payload.ensures.short
+          c.in_ok-push.ensures.ok;
+    }

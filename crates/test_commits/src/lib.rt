@@ -1,0 +1,80 @@
+//! What commits of sessions over stores in memory, and turns and threads below them, are answered, what they cost and what a stop leaves: for
+//! programs of tests that have tables of such cases.
+//!
+//! In a table a line that begins with `##` is a title, and is printed as it is; each other line is printed behind `> `, above what comes of it.
+#![tactic(auto)]
+
+mod bells;
+mod commits;
+mod logs;
+mod seats;
+mod steps;
+mod tally;
+
+use bells::push_bells;
+use cell_values::Memory;
+use commits::{push_cases, push_runs};
+use logs::push_entries;
+use seats::push_seats;
+use std::sync::Wait;
+use std::thread::Threads;
+use steps::push_shared;
+use tally::push_turns;
+use test_kit::push_words;
+
+/// A table of cases.
+#[derive(Clone, Copy)]
+enum Table {
+    SharedSteps,
+    Seats,
+    Turns,
+    Steps,
+    Stops,
+}
+
+/// The table below a title.
+fn table_of(title: &str) -> Option<Table> {
+    match title {
+        "steps of three sessions" => Some(Table::SharedSteps),
+        "sessions on threads" => Some(Table::Seats),
+        "turns" => Some(Table::Turns),
+        "steps" => Some(Table::Steps),
+        "stops" => Some(Table::Stops),
+        _ => None,
+    }
+}
+
+/// Adds what comes of a table.
+fn push_table<R: Threads + Wait + Sync>(
+    rt: &R,
+    out: &mut String,
+    table: Table,
+    text: &str,
+) -> Result<(), Memory> {
+    match table {
+        Table::SharedSteps => push_shared(rt, out, text),
+        Table::Seats => push_seats(rt, out, text),
+        Table::Turns => {
+            let turns = push_turns(rt, out).and(push_entries(rt, out));
+            turns.and(push_bells(rt, out))
+        }
+        Table::Steps => push_runs(rt, out, text),
+        Table::Stops => push_cases(rt, out),
+    }
+}
+
+/// Adds the title of a table of commits, turns or threads, and what comes of its lines; nothing where the title is another one.
+pub fn push_commit_table<R: Threads + Wait + Sync>(
+    rt: &R,
+    out: &mut String,
+    title: &str,
+    text: &str,
+) -> Result<(), Memory> {
+    match table_of(title) {
+        Some(table) => {
+            push_words(out, &["### ", title, "\n"])?;
+            push_table(rt, out, table, text)
+        }
+        None => Ok(()),
+    }
+}

@@ -1,0 +1,62 @@
+//! Command lines that are run over files in memory.
+//!
+//! Behind `words: ` stand the words of a command line without a script; behind `init: ` a number of zero bytes, of the device that
+//! `init db` is run over; behind `fails: ` the number, from 0, of the call of an empty device that fails. A script behind `workers: ` is
+//! run over a new database with one worker and over another one with eight, and both replies are told; one behind `csv: ` over a new
+//! database, where arrays are told as CSV, and one behind `trace: ` over one where it is told what was read.
+
+use crate::files::{device_of, streams_of};
+use crate::runs::{new_shelf, push_run};
+use afl_outside::MemShelf;
+use cell_values::Memory;
+use std::sync::Wait;
+use std::thread::Threads;
+use std::time::Clock;
+
+/// The command line that is run for a word, and whether a script is run by it.
+fn line_of<'a>(word: &str, text: &'a str) -> (&'a str, bool) {
+    match word {
+        "words" => (text, false),
+        "workers" => ("run db --workers 1 -", true),
+        "csv" => ("run db --format csv+ -", true),
+        "trace" => ("run db --trace -", true),
+        _ => ("init db", false),
+    }
+}
+
+/// The files that it is run over.
+fn files_of<R: AllocGlobal + Threads + Wait + Clock + Sync>(
+    rt: &R,
+    word: &str,
+    text: &str,
+) -> Result<MemShelf, Memory> {
+    let number = text.parse::<u64>().unwrap_or(0);
+    match word {
+        "words" => streams_of(rt.alloc(), ""),
+        "init" => device_of(rt.alloc(), number as usize, None),
+        "fails" => device_of(rt.alloc(), 0, Some(number)),
+        _ => new_shelf(rt, "-", text),
+    }
+}
+
+/// Adds what the run of a line comes to, by the word that it begins with.
+pub(crate) fn push_command<R: AllocGlobal + Threads + Wait + Clock + Sync>(
+    rt: &R,
+    out: &mut String,
+    line: &str,
+) -> Result<(), Memory> {
+    let (word, text) = line.split_once(':').unwrap_or((line, ""));
+    let (line, is_script) = line_of(word, text);
+    let text = text.trim_start();
+    push_run(rt, out, line, files_of(rt, word, text)?, !is_script)?;
+    if word == "workers" {
+        push_run(
+            rt,
+            out,
+            "run db --workers 8 -",
+            files_of(rt, word, text)?,
+            false,
+        )?;
+    }
+    Ok(())
+}

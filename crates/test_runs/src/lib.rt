@@ -1,0 +1,85 @@
+//! What the program's top call writes over files in memory, and how each run ends: for programs of tests that have tables of such cases.
+//!
+//! In a table a line that begins with `##` is a title, and is printed as it is; each other line is printed behind `> `, above what comes of it.
+#![tactic(auto)]
+
+mod commands;
+mod files;
+mod order;
+mod runs;
+mod sessions;
+mod told;
+
+use cell_values::Memory;
+use commands::push_command;
+use files::streams_of;
+use runs::push_run;
+use sessions::push_sessions;
+use std::sync::Wait;
+use std::thread::Threads;
+use std::time::Clock;
+use test_kit::{begin_answer, push_words};
+
+/// A table of cases.
+#[derive(Clone, Copy)]
+enum Table {
+    Scripts,
+    Commands,
+    Sessions,
+}
+
+/// The table below a title.
+fn table_of(title: &str) -> Option<Table> {
+    match title {
+        "scripts" => Some(Table::Scripts),
+        "command lines" => Some(Table::Commands),
+        "sessions side by side" => Some(Table::Sessions),
+        _ => None,
+    }
+}
+
+/// Adds a title, or a line of a table and what comes of it.
+fn push_line<R: AllocGlobal + Threads + Wait + Clock + Sync>(
+    rt: &R,
+    out: &mut String,
+    table: Table,
+    line: &str,
+) -> Result<(), Memory> {
+    if !begin_answer(out, line)? {
+        return Ok(());
+    }
+    match table {
+        Table::Scripts => push_run(rt, out, "try", streams_of(rt.alloc(), line)?, false),
+        Table::Commands => push_command(rt, out, line),
+        Table::Sessions => push_sessions(rt, out, line),
+    }
+}
+
+/// Adds each line, and what comes of it.
+fn push_lines<R: AllocGlobal + Threads + Wait + Clock + Sync>(
+    rt: &R,
+    out: &mut String,
+    table: Table,
+    text: &str,
+) -> Result<(), Memory> {
+    for line in text.lines() {
+        push_line(rt, out, table, line)?;
+    }
+    Ok(())
+}
+
+/// Adds the title of a table of runs, and its lines with what comes of them; nothing where the title is another one.
+pub fn push_run_table<R: AllocGlobal + Threads + Wait + Clock + Sync>(
+    rt: &R,
+    out: &mut String,
+    title: &str,
+    text: &str,
+) -> Result<(), Memory> {
+    match table_of(title) {
+        Some(table) => {
+            push_words(out, &["### ", title, "\n"])?;
+            push_lines(rt, out, table, text)
+        }
+        None => Ok(()),
+    }
+}
