@@ -18,7 +18,7 @@ while True:
         if p in low  or any(f'-{q}-' in cwd for q in low): setn(p,0)
         elif cwd.startswith('/tmp/rt-edit'): setn(p,int(open('/tmp/editnice').read()))
         elif cwd.startswith(('/tmp/rt-copy','/work/clones/gate')) and '--crate-name' in cmd and re.search(r'--crate-name ('+open('/tmp/chain').read().strip()+') ',cmd): setn(p,-20)
-        elif cwd.startswith(('/tmp/rt-copy','/work/clones/gate')) and '--crate-name' in cmd and re.search(r'--crate-name (?!test_)',cmd): setn(p,-13)
+        elif cwd.startswith(('/tmp/rt-copy','/work/clones/gate')) and '--crate-name' in cmd and re.search(r'--crate-name (?!test_)',cmd): setn(p,-8)
         elif cwd.startswith(('/tmp/rt-copy','/work/clones/gate')) and '--crate-name test_' in cmd and open('/tmp/testnice').read().strip()!='-10': setn(p,int(open('/tmp/testnice').read()))
         elif '/rt ci' in cmd: setn(p,-16)
         elif cwd.startswith(('/tmp/rt-copy','/work/clones/gate')) or cwd.startswith('/work/clones/gate') or cwd.startswith('/work/clones/gateC'): setn(p,-10)
