@@ -1,6 +1,6 @@
 -- Names, reserved words, numbers and codes at the front.
 use Rattle.std.proofs.Common.{◌≡◌, ◌≢◌, ℕ, zero, suc, ◌+◌, ◌<◌, ◌≤◌, Bool, true, false, List, [], ◌∷◌, Option, Some, None, length, take, drop, refl, sym, ap, subst, ◌∙◌, arith, inl, inr}
-use Rattle.std.specs.Prelude.{◌==◌, ◌&&◌, ◌||◌, not, nat_le, nat_lt, codes, pos}
+use Rattle.std.specs.Prelude.{◌==◌, ◌&&◌, ◌||◌, not, nat_le, nat_lt, codes, pos, if◌then◌else◌}
 use Rattle.std.specs.List.{list_all, prefix_len}
 use Rattle.std.specs.Str.{bytes_eq}
 use Rattle.std.specs.Str.Parse.{digits_value}
@@ -180,3 +180,8 @@ code_right b rest e =
     cond_both (nat_le value 127) (Found (Code value) (n + 1)) (Wrong LiteralTooLarge 0) (IsRight bytes)
     (λ h. (omega arith, code_front b rest e some, (code_fits b rest e some, sym same, leb-true value 127 h)))
     (λ h. (n + 1, code_front b rest e some, (refl, inr (code_fits b rest e some, omega (arith, leb-false value 127 h))))))
+
+-- in place of what stands behind `else` may stand what it is
+pub follows : {A : Type 0} (b : Bool) (this : A) {found other other' : Option A} →
+    found ≡ (if b then Some this else other) → other ≡ other' → found ≡ (if b then Some this else other')
+follows b this is same = is ∙ ap (λ x. if b then Some this else x) same

@@ -15,5 +15,6 @@ pub use gap::gap_end;
 pub use lexer::{
     name_value, spelled_lexemes_are_read_again, text_value, texts_have_tokens_or_stop, tokens,
 };
+pub use reading::if_spelled;
 pub use splitter::{SplitStep, Splitter};
 pub use token::{LexFault, LexKind, Symbol, Token, TokenKind, Word};

@@ -1,6 +1,7 @@
 //! What stands at the front of some bytes that begin with no gap.
-ghost use Rattle.std.specs.Prelude.{◌≡◌, ◌+◌, ◌-◌, ◌^◌, ◌<◌, ◌≤◌, min, IsTrue, length};
+ghost use Rattle.std.specs.Prelude.{◌≡◌, ◌+◌, ◌-◌, ◌^◌, ◌<◌, ◌≤◌, min, IsTrue, length, Some, if◌then◌else◌};
 ghost use Rattle.std.specs.List.{list_all, prefix_len};
+ghost use Rattle.std.specs.Str.{bytes_eq};
 ghost use Rattle.std.specs.Str.Parse.{digits_value};
 ghost use Rattle.cell_values.specs.Naming.{is_digit, is_word_byte, is_first_byte};
 ghost use Rattle.afl_lexer.specs.Scan.{word_of, word_reading, number_reading, code_reading, double_symbol, single_symbol, symbol_reading, reading_of};
@@ -47,31 +48,28 @@ fn digits_len(bytes: &[u8]) -> usize
     bytes.iter().take_while(|byte| is_a_digit(**byte)).count()
 }
 
+/// What a word stands for, where the bytes are spelled so; else what they stand for otherwise.
+pub fn if_spelled<T: Copy>(bytes: &[u8], word: &[u8], this: T, other: Option<T>) -> Option<T>
+    ensures { result ≡ (if bytes_eq bytes.now word.now then Some this else other) }
+{
+    if bytes == word { Some(this) } else { other }
+}
+
 /// The reserved word that the bytes are.
 fn reserved_word(bytes: &[u8]) -> Option<Word>
     ensures { result ≡ word_of bytes.now }
 {
-    if bytes == b"and".as_slice() {
-        Some(Word::And)
-    } else if bytes == b"or".as_slice() {
-        Some(Word::Or)
-    } else if bytes == b"not".as_slice() {
-        Some(Word::Not)
-    } else if bytes == b"null".as_slice() {
-        Some(Word::Null)
-    } else if bytes == b"true".as_slice() {
-        Some(Word::True)
-    } else if bytes == b"false".as_slice() {
-        Some(Word::False)
-    } else if bytes == b"as".as_slice() {
-        Some(Word::As)
-    } else if bytes == b"create".as_slice() {
-        Some(Word::Create)
-    } else if bytes == b"array".as_slice() {
-        Some(Word::Array)
-    } else {
-        None
-    }
+    let found = None;
+    let found = if_spelled(bytes, b"array", Word::Array, found);
+    let found = if_spelled(bytes, b"create", Word::Create, found);
+    let found = if_spelled(bytes, b"as", Word::As, found);
+    let found = if_spelled(bytes, b"false", Word::False, found);
+    let found = if_spelled(bytes, b"true", Word::True, found);
+    let found = if_spelled(bytes, b"null", Word::Null, found);
+    let found = if_spelled(bytes, b"not", Word::Not, found);
+    let found = if_spelled(bytes, b"or", Word::Or, found);
+    let found = if_spelled(bytes, b"and", Word::And, found);
+    found
 }
 
 #[tactic(auto, unfolding(crate::specs::Scan::word_reading))]

@@ -1,6 +1,6 @@
 -- One image by the places of the writes that are kept.
-use Rattle.std.proofs.Common.{◌≡◌, ℕ, ◌+◌, List, [], ◌∷◌, ◌++◌, Bool, true, false, cond, length, take, drop, refl, sym, ◌∙◌, ap, subst, arith, length-append, append-nil, append_assoc, take-append-drop}
-use Rattle.std.proofs.lemmas.List.{drop-append-le, length-replicate, reverse-append}
+use Rattle.std.proofs.Common.{◌≡◌, ℕ, ◌+◌, ◌<◌, ◌≤◌, List, [], ◌∷◌, ◌++◌, Bool, true, false, cond, length, get_or, take, drop, refl, sym, ◌∙◌, ap, subst, arith, length-append, append-nil, append_assoc, take-append-drop}
+use Rattle.std.proofs.lemmas.List.{at_drop_all, at_drop_more, drop-append-le, length-take-le, take_more, length-replicate, reverse-append}
 use Rattle.std.proofs.Math.ListN.{drop_of_length-le}
 use Rattle.std.proofs.lemmas.List.Sums.{suffix_len-le-length}
 use Rattle.std.specs.List.{suffix_len, prefix_len}
@@ -81,3 +81,38 @@ stopped_left first calls kept fill image is =
     subst (Leaves first calls) (sym is) (subst (λ (l : List DeviceCall). Leaves first l stopped) (take-append-drop (synced_count calls) calls)
     (ImagesAfter-append first (λ d. d ≡ first) front back stopped
     (with_writes_left (content_after first front) (Leaves first front) back kept fill (content_after first front) (ArePending-unsynced calls) (content_is_left first front))))
+
+-- ---- one call after the other
+
+one_taken : (calls : List DeviceCall) (i : ℕ) (call : DeviceCall) → i < length calls → call ≡ get_or calls i call → take i calls ++ call ∷ [] ≡ take (i + 1) calls
+one_taken calls i call low is = ap (λ (c : DeviceCall). take i calls ++ c ∷ []) is ∙ sym (take_more calls i call low)
+
+pub pending_more : (calls : List DeviceCall) (i count : ℕ) (call : DeviceCall) → i < length calls → call ≡ get_or calls i call → is_pending call ≡ true
+    → count ≡ synced_count (take i calls) → count ≡ synced_count (take (i + 1) calls)
+pending_more calls i count call low is pending so_far =
+    so_far ∙ sym (synced_count-pending (take i calls) call pending) ∙ ap synced_count (one_taken calls i call low is)
+
+pub synced_more : (calls : List DeviceCall) (i : ℕ) (call : DeviceCall) → i < length calls → call ≡ get_or calls i call → is_pending call ≡ false
+    → i + 1 ≡ synced_count (take (i + 1) calls)
+synced_more calls i call low is synced =
+    ap (λ (n : ℕ). n + 1) (sym (length-take-le i calls (omega (arith, low)))) ∙ sym (synced_count-synced (take i calls) call synced)
+    ∙ ap synced_count (one_taken calls i call low is)
+
+pub replay_step : (all seen next : List ℕ) (calls : List DeviceCall) (i : ℕ) (call : DeviceCall) → i < length calls → call ≡ get_or calls i call
+    → next ≡ next_content seen call → content_after seen (drop i calls) ≡ all → content_after next (drop (i + 1) calls) ≡ all
+replay_step all seen next calls i call low is one so_far =
+    ap (λ (s : List ℕ). content_after s (drop (i + 1) calls)) (one ∙ ap (next_content seen) is) ∙ sym (at_drop_more (content_after seen) calls i call low) ∙ so_far
+
+pub replay_end : (all seen : List ℕ) (calls : List DeviceCall) (i : ℕ) → length calls ≤ i → content_after seen (drop i calls) ≡ all → seen ≡ all
+replay_end all seen calls i past so_far = sym (at_drop_all (content_after seen) calls i past) ∙ so_far
+
+pub lay_step : (all : List ℕ) (fill : ℕ) (places rest : List Bool) (seen next : List ℕ) (calls : List DeviceCall) (i : ℕ) (call : DeviceCall) → i < length calls
+    → call ≡ get_or calls i call → ((later : List DeviceCall) → with_writes rest fill next later ≡ with_writes places fill seen (call ∷ later))
+    → with_writes places fill seen (drop i calls) ≡ all → with_writes rest fill next (drop (i + 1) calls) ≡ all
+lay_step all fill places rest seen next calls i call low is one so_far =
+    one (drop (i + 1) calls) ∙ ap (λ (c : DeviceCall). with_writes places fill seen (c ∷ drop (i + 1) calls)) is
+    ∙ sym (at_drop_more (with_writes places fill seen) calls i call low) ∙ so_far
+
+pub lay_end : (all : List ℕ) (fill : ℕ) (places : List Bool) (seen : List ℕ) (calls : List DeviceCall) (i : ℕ) → length calls ≤ i
+    → with_writes places fill seen (drop i calls) ≡ all → seen ≡ all
+lay_end all fill places seen calls i past so_far = sym (at_drop_all (with_writes places fill seen) calls i past) ∙ so_far

@@ -1,8 +1,8 @@
 -- What reads and writes of objects in memory do to what they tell.
-use Rattle.std.proofs.Common.{◌≡◌, ◌≤◌, ◌<◌, ℕ, ◌+◌, ◌-◌, max, replicate, append_assoc, length-append, List, [], ◌++◌, ◌⊎◌, inl, inr, length, take, drop, refl, sym, ◌∙◌, ap, subst, arith, append-nil, take-append-drop, Some, Result, Ok, Err, MatchResult}
-use Rattle.std.proofs.lemmas.List.{take_all, take_at, length-drop, length-take-le, take-replicate, take-append-le, length-replicate}
+use Rattle.std.proofs.Common.{◌≡◌, ◌≤◌, ◌<◌, ℕ, ◌+◌, ◌-◌, max, min, replicate, append_assoc, length-append, List, [], ◌++◌, ◌⊎◌, inl, inr, length, take, drop, refl, sym, ◌∙◌, ap, subst, arith, append-nil, take-append-drop, Some, Result, Ok, Err, MatchResult}
+use Rattle.std.proofs.lemmas.List.{drop-drop, take_all, take_at, length-drop, length-take-le, take-replicate, take-append-le, length-replicate}
 use Rattle.std.proofs.Math.ListN.{drop_of_length-le}
-use Rattle.afl_outside.specs.Disk.{written}
+use Rattle.afl_outside.specs.Disk.{written, ReadsAt}
 use Rattle.std.proofs.Math.Seq.{take-length}
 use Rattle.afl_outside.specs.Source.{Gives}
 use Rattle.afl_outside.specs.Sink.{Takes}
@@ -66,8 +66,47 @@ sure_takes_what_was_written piece old new (Ok n) (size, is) wants =
 sure_takes_what_was_written piece old new (Err e) is wants =
     Takes-same [] [] old new 0 0 refl (ap (λ (h : Holding). h.first) is) (ap (λ (h : Holding). h.held) is) (omega arith) wants
 
+-- what fits of what is left was read
+pub reads_piece : (r : Reading) (from old into : List ℕ) (n : ℕ) → from ≡ r.left → n ≡ min (length from) (length old) → into ≡ take n from ++ drop n old → ReadsPiece r n into
+reads_piece r from old into n f m is =
+    let front : length (take n from) ≡ n = length-take-le n from (omega (arith, m)) in
+    let long : length into ≡ length old = omega (arith, ap length is, length-append (take n from) (drop n old), front, length-drop n old, m) in
+    record { most = omega (arith, ap length f, m, long); bytes = ap (take n) is ∙ take_at (take n from) (drop n old) n front ∙ ap (take n) f }
+
+abbrev pub reading : List ℕ → ℕ → Reading
+reading content at = record { first = content; left = drop at content; given = at }
+
+-- what is behind that is left
+pub read_behind : (content : List ℕ) (at n : ℕ) → reading content (at + n) ≡ read_on n (reading content at)
+read_behind content at n = let made : List ℕ → Reading = λ l. record { first = content; left = l; given = at + n } in ap made (sym (drop-drop n at content))
+
 le_or_more : (a b : ℕ) → (a ≤ b) ⊎ (b < a)
 le_or_more a b = grind arith
+
+abbrev pub holding : ℕ → List ℕ → ℕ → Holding
+holding begun held wants = record { first = take begun held; held = held; wants = wants }
+
+-- what is written behind leaves the bytes with which a sink began
+pub written_behind : (held bytes now : List ℕ) (begun wants : ℕ) → begun ≤ length held → now ≡ held ++ bytes → holding begun now wants ≡ written_on bytes (holding begun held wants)
+written_behind held bytes now begun wants fits is = λ i. record { first = (ap (take begun) is ∙ take-append-le begun held bytes fits) i; held = is i; wants = wants }
+
+-- what fits of the bytes from a place on was copied
+pub reads_from : (content from old into : List ℕ) (at place n : ℕ) → place ≡ min (length content) at → from ≡ drop place content → n ≡ min (length from) (length old)
+    → into ≡ take n from ++ drop n old → ReadsAt content at n into
+reads_from content from old into at place n p f m is =
+    let left : length from ≡ length content - place = ap length f ∙ length-drop place content in
+    let front : length (take n from) ≡ n = length-take-le n from (omega (arith, m)) in
+    let long : length into ≡ length old = omega (arith, ap length is, length-append (take n from) (drop n old), front, length-drop n old, m) in
+    record {
+      most = omega (arith, p, left, m, long);
+      bytes = ap (take n) is ∙ take_at (take n from) (drop n old) n front ∙ ap (take n) f ∙ same (le_or_more at (length content)) left;
+    }
+  where
+    same : (at ≤ length content) ⊎ (length content < at) → length from ≡ length content - place → take n (drop place content) ≡ take n (drop at content)
+    same (inl fits) left = ap (λ (k : ℕ). take n (drop k content)) (let e : place ≡ at = omega (arith, p, fits) in e)
+    same (inr past) left =
+        let none : n ≡ 0 = omega (arith, p, past, left, m) in
+        ap (λ (k : ℕ). take k (drop place content)) none ∙ sym (ap (λ (k : ℕ). take k (drop at content)) none)
 
 -- as many zeros as reach the place, of more that stand there
 front_of-zeros : (at m : ℕ) (old : List ℕ) → at - length old ≤ m → take at (old ++ replicate m 0) ≡ take at (old ++ replicate (at - length old) 0)

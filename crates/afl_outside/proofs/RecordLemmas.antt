@@ -1,5 +1,7 @@
 -- What one call more does to the record of a disk in memory.
-use Rattle.std.proofs.Common.{◌≡◌, ◌≤◌, ◌⊎◌, inl, inr, ℕ, List, [], ◌∷◌, ◌++◌, length, true, false, IsTrue, refl, sym, ◌∙◌, ap, subst, arith, Result, Ok, Err, IsOk, OnOk, OnErr, Some, IfSome}
+use Rattle.std.proofs.Common.{◌≡◌, ◌≤◌, ◌⊎◌, inl, inr, ℕ, List, [], ◌∷◌, ◌++◌, length, true, false, IsTrue, refl, sym, ◌∙◌, ap, subst, arith, Result, Ok, Err, IsOk, OnOk, OnErr, Option, None, Some, IfSome, take, length-append}
+use Rattle.std.proofs.lemmas.List.{take_at}
+use Rattle.std.specs.Prelude.{MatchOption}
 use Rattle.afl_outside.specs.Counts.{risen, Rose}
 use Rattle.afl_outside.specs.Disk.{written, Torn, Elapses, Follows, Only, Writes, DiskGoesOn}
 use Rattle.afl_outside.specs.Images.{next_content, NextImages, content_after, IsNote}
@@ -159,3 +161,12 @@ pub sure_durable : {T : Type 0} (old new : SureBytes) (result : Result T Failed)
     → OnOk result (IsTrue (sure_disk_state old).honest → IfSome (sure_disk_state old).seen (λ seen. Only seen (images_of new.bytes)))
 sure_durable old new (Ok x) is = λ honest. subst (λ (m : SureBytes). Only (content_of old.bytes) (images_of m.bytes)) (sym is) (images_of-sync old.bytes)
 sure_durable old new (Err e) is = tt
+
+-- what was pushed and then taken off
+pub popped : {A : Type 0} (old pushed now : List A) (x : A) (last : Option A) → pushed ≡ old ++ x ∷ []
+    → MatchOption last ((pushed ≡ []) × (now ≡ [])) (λ y. pushed ≡ now ++ y ∷ []) → now ≡ old
+popped old pushed now x None more none = absurd (omega (arith, ap length (sym more ∙ none.0), length-append old (x ∷ [])))
+popped old pushed now x (Some y) more off =
+    let both : old ++ x ∷ [] ≡ now ++ y ∷ [] = sym more ∙ off in
+    let long : length now ≡ length old = omega (arith, ap length both, length-append old (x ∷ []), length-append now (y ∷ [])) in
+    sym (take_at now (y ∷ []) (length old) long) ∙ ap (take (length old)) (sym both) ∙ take_at old (x ∷ []) (length old) refl

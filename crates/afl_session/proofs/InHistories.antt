@@ -8,15 +8,15 @@ use Rattle.afl_outside.specs.Disk.{Moment}
 use Rattle.afl_outside.specs.Source.{SourceState}
 use Rattle.afl_outside.specs.Sink.{SinkState}
 use Rattle.event_core.specs.declared.entry.Entry.TheVariants.{Pin}
-use Rattle.afl_session.specs.Acts.{Course, nothing, looking, trying, making}
-use Rattle.afl_session.specs.Answered.{BeganAt, IsAnswered}
+use Rattle.session_answers.specs.Acts.{Course, nothing, looking, trying, making}
+use Rattle.session_answers.specs.Answered.{BeganAt, IsAnswered}
 use Rattle.store_state.specs.declared.state.event.Event.{Event}
-use Rattle.afl_session.specs.Replies.{IsToldFor}
-use Rattle.afl_session.specs.declared.replies.reply.Reply.{Reply}
+use Rattle.session_answers.specs.Replies.{IsToldFor}
+use Rattle.session_answers.specs.declared.replies.reply.Reply.{Reply}
 use Rattle.snapshot_manager.specs.Start.{Start}
 use Rattle.statement_replies.specs.declared.replies.style.Style.{Style}
 use Rattle.snapshot_manager.specs.Told.{entries_in, is_sealed}
-use Rattle.afl_session.proofs.Staying.{entered_later, no_room_later, replies_stay}
+use Rattle.session_answers.proofs.Staying.{entered_later, no_room_later, replies_stay}
 use Rattle.run_opening.specs.declared.reports.reports.Mark.{Mark}
 use Rattle.run_opening.specs.declared.reports.reports.SessionEnd.{SessionEnd}
 use Rattle.run_opening.specs.declared.reports.reports.SessionEnd.TheVariants as ends

@@ -16,8 +16,8 @@ use Rattle.result_print.specs.declared.refusal.Refusal.TheVariants as refusals
 use Rattle.statement_replies.specs.Reply.{memory_line}
 use Rattle.statement_replies.specs.declared.replies.replies.Reply.{Reply as Words}
 use Rattle.store_state.specs.declared.state.event.Event.{Event}
-use Rattle.afl_session.specs.Replies.{HasLine}
-use Rattle.afl_session.specs.declared.replies.reply.Reply.{Reply}
+use Rattle.session_answers.specs.Replies.{HasLine}
+use Rattle.session_answers.specs.declared.replies.reply.Reply.{Reply}
 use Rattle.snapshot_manager.specs.Start.{Start}
 use Rattle.statement_replies.specs.declared.replies.style.Style.{Style}
 use Rattle.run_opening.specs.Outcomes.{is_want}

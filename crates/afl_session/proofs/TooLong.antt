@@ -3,8 +3,8 @@ use Rattle.std.proofs.Common.{◌≡◌, ◌∙◌, ◌≤◌, ℕ, List, length
 use Rattle.result_print.specs.declared.refusal.Refusal.TheVariants.{TooLong}
 use Rattle.statement_replies.specs.Reply.{too_long}
 use Rattle.store_state.specs.declared.state.event.Event.{Event}
-use Rattle.afl_session.specs.Refusals.{RefusesAt}
-use Rattle.afl_session.specs.declared.replies.reply.Reply.{Reply}
+use Rattle.session_answers.specs.Refusals.{RefusesAt}
+use Rattle.session_answers.specs.declared.replies.reply.Reply.{Reply}
 use Rattle.snapshot_manager.specs.Told.{entries_in}
 use Rattle.afl_session.specs.Marked.{IsTooLongReply}
 

@@ -5,13 +5,13 @@ use Rattle.afl_trees.specs.Term.{Term}
 use Rattle.afl_trees.specs.Statement.{DerivesText, StopsText}
 use Rattle.afl_trees.specs.declared.kind.ParseKind.{ParseKind}
 use Rattle.result_print.specs.declared.refusal.Refusal.TheVariants.{HistoryFull}
-use Rattle.afl_session.specs.Acts.{acts_for, acts_in, Course}
-use Rattle.afl_session.specs.Answered.{BeganAt, IsStopReply}
+use Rattle.session_answers.specs.Acts.{acts_for, acts_in, Course}
+use Rattle.session_answers.specs.Answered.{BeganAt, IsStopReply}
 use Rattle.session_sources.specs.Courses.{AddsOwn}
 use Rattle.store_state.specs.declared.state.event.Event.{Event}
-use Rattle.afl_session.specs.Refusals.{IsWantBetween}
-use Rattle.afl_session.specs.Replies.{HadNoRoom, HasLine, IsToldFor}
-use Rattle.afl_session.specs.declared.replies.reply.Reply.{Reply}
+use Rattle.session_answers.specs.Refusals.{IsWantBetween}
+use Rattle.session_answers.specs.Replies.{HadNoRoom, HasLine, IsToldFor}
+use Rattle.session_answers.specs.declared.replies.reply.Reply.{Reply}
 use Rattle.snapshot_manager.specs.Start.{Start}
 use Rattle.statement_replies.specs.declared.replies.style.Style.{Style}
 use Rattle.snapshot_manager.specs.Told.{entries_in}

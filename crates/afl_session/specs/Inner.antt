@@ -1,4 +1,1 @@
 pub mod Serving
-pub mod Steps
-pub mod Tree
-pub mod Turns

@@ -8,11 +8,11 @@ use Rattle.afl_lexer.specs.Split.{Statement}
 use Rattle.afl_outside.specs.Disk.{Moment}
 use Rattle.result_print.specs.declared.refusal.Refusal.TheVariants.{Memory}
 use Rattle.statement_replies.specs.Reply.{memory_line, too_long}
-use Rattle.afl_session.specs.Answered.{IsAnswered}
+use Rattle.session_answers.specs.Answered.{IsAnswered}
 use Rattle.store_state.specs.declared.state.event.Event.{Event}
-use Rattle.afl_session.specs.Refusals.{IsWantBetween}
-use Rattle.afl_session.specs.Replies.{words_of}
-use Rattle.afl_session.specs.declared.replies.reply.Reply.{Reply}
+use Rattle.session_answers.specs.Refusals.{IsWantBetween}
+use Rattle.session_answers.specs.Replies.{words_of}
+use Rattle.session_answers.specs.declared.replies.reply.Reply.{Reply}
 use Rattle.snapshot_manager.specs.Start.{Start}
 use Rattle.statement_replies.specs.declared.replies.style.Style.{Style}
 use Rattle.run_opening.specs.declared.reports.reports.Mark.{Mark}

@@ -1,9 +1,9 @@
 -- Calls of operators on a source, by the list of their arguments.
-use Rattle.std.proofs.Common.{◌≡◌, ◌<◌, ◌≤◌, ℕ, Some, Result, List, [], ◌∷◌, length, take, drop, get_or, ◌-◌, refl, sym, ap, subst, ◌∙◌, arith}
+use Rattle.std.proofs.Common.{◌≡◌, ◌+◌, ◌*◌, ◌<◌, ◌≤◌, ℕ, Some, Result, List, [], ◌∷◌, length, take, drop, get_or, ◌-◌, refl, sym, ap, subst, ◌∙◌, arith}
 use Rattle.std.proofs.lemmas.List.{take_all}
 use Rattle.cell_values.specs.declared.name.Span.{Span}
 use Rattle.schema_grammar.specs.declared.kinds.TypeKind.TheVariants.{WrongCount}
-use Rattle.afl_trees.specs.Term.{Term, to_terms}
+use Rattle.afl_trees.specs.Term.{Term, term_size, terms_size, to_terms}
 use Rattle.logical_plan.specs.Query.{Query}
 use Rattle.logical_plan.specs.declared.names.NameEntry.{NameEntry}
 use Rattle.check_rules.specs.Checked.{Answers, refused}
@@ -31,6 +31,24 @@ two_first [] x y some e f = absurd (omega (arith, some))
 two_first (a ∷ []) x y some e f = absurd (omega (arith, some))
 two_first (a ∷ b ∷ xs) x y some e f =
     ap (λ (t : Term). t ∷ b ∷ xs) (sym e) ∙ ap (λ (t : Term). x ∷ t ∷ xs) (sym f) ∙ ap (λ (ts : List Term). x ∷ y ∷ ts) (sym (take_all (length (a ∷ b ∷ xs) - 2) xs (omega arith)))
+
+-- arguments are smaller than the whole of them
+
+pub first_smaller : (xs : List Term) (x : Term) → 1 ≤ length xs → x ≡ get_or xs 0 x → 4 * term_size x + 1 < 4 * terms_size (to_terms xs) + 2
+first_smaller [] x some e = absurd (omega (arith, some))
+first_smaller (a ∷ xs) x some e =
+    let same : term_size x ≡ term_size a = ap term_size e in
+    let sum : terms_size (to_terms (a ∷ xs)) ≡ term_size a + terms_size (to_terms xs) = refl in
+    omega (arith, same, sum)
+
+pub two_smaller : (xs : List Term) (x y : Term) → 2 ≤ length xs → x ≡ get_or xs 0 x → y ≡ get_or xs 1 y → 4 * (term_size x + term_size y) + 1 < 4 * terms_size (to_terms xs) + 2
+two_smaller [] x y some e f = absurd (omega (arith, some))
+two_smaller (a ∷ []) x y some e f = absurd (omega (arith, some))
+two_smaller (a ∷ b ∷ xs) x y some e f =
+    let first : term_size x ≡ term_size a = ap term_size e in
+    let second : term_size y ≡ term_size b = ap term_size f in
+    let sum : terms_size (to_terms (a ∷ b ∷ xs)) ≡ term_size a + (term_size b + terms_size (to_terms xs)) = refl in
+    omega (arith, first, second, sum)
 
 module _ (arrays : List NameEntry) (s : Span) (name : List ℕ) (operator : OverSource) where
   pub with_source : (r : Result Query TypeFault) (xs : List Term) (source : Term) (rest : List Term) → xs ≡ source ∷ rest

@@ -1,7 +1,8 @@
 -- Chunks whose cores have nothing in a box.
-use Rattle.std.proofs.Common.{◌≡◌, ℕ, zero, suc, ◌*◌, ◌-◌, ◌<◌, ◌≤◌, ℤ, ◌≤ℤ◌, Bool, true, false, cond, ◌&&◌, ◌||◌, List, [], ◌∷◌, length, get_or, refl, ap, ◌∙◌, arith}
+use Rattle.std.proofs.Common.{◌≡◌, ℕ, zero, suc, ◌*◌, ◌-◌, ◌<◌, ◌≤◌, ℤ, ◌≤ℤ◌, Bool, true, false, cond, ◌&&◌, ◌||◌, List, [], ◌∷◌, length, get_or, refl, sym, ap, ◌∙◌, arith}
 use Rattle.std.specs.Prelude.{int_le}
 use Rattle.std.specs.Int.{int_max, int_min}
+use Rattle.std.proofs.lemmas.Bool.{false≢true}
 use Rattle.std.proofs.lemmas.Int.{ints, clamps}
 use Rattle.std.specs.List.{AllByRecursion}
 use Rattle.std.specs.Cmp.{ranked}
@@ -25,12 +26,12 @@ use Rattle.area_cells.specs.Inner.Apart.{begins_above, first_of}
 -- what two boxes have in common is in order where a coordinate lies in both
 between_both : (lo hi lo' hi' : List ℤ) (c : Coordinate) → is_between lo hi c ≡ true → is_between lo' hi' c ≡ true → are_ordered (by_pairs int_max lo lo') (by_pairs int_min hi hi') ≡ true
 between_both [] [] lo' hi' c e f = refl
-between_both [] (h ∷ hi) lo' hi' c e f = absurd cc
-between_both (l ∷ lo) [] lo' hi' c e f = absurd cc
-between_both (l ∷ lo) (h ∷ hi) lo' hi' [] e f = absurd cc
-between_both (l ∷ lo) (h ∷ hi) [] [] (x ∷ c) e f = absurd cc
-between_both (l ∷ lo) (h ∷ hi) [] (h' ∷ hi') (x ∷ c) e f = absurd cc
-between_both (l ∷ lo) (h ∷ hi) (l' ∷ lo') [] (x ∷ c) e f = absurd cc
+between_both [] (h ∷ hi) lo' hi' c e f = absurd (false≢true e)
+between_both (l ∷ lo) [] lo' hi' c e f = absurd (false≢true e)
+between_both (l ∷ lo) (h ∷ hi) lo' hi' [] e f = absurd (false≢true e)
+between_both (l ∷ lo) (h ∷ hi) [] [] (x ∷ c) e f = absurd (false≢true f)
+between_both (l ∷ lo) (h ∷ hi) [] (h' ∷ hi') (x ∷ c) e f = absurd (false≢true f)
+between_both (l ∷ lo) (h ∷ hi) (l' ∷ lo') [] (x ∷ c) e f = absurd (false≢true f)
 between_both (l ∷ lo) (h ∷ hi) (l' ∷ lo') (h' ∷ hi') (x ∷ c) e f =
     let t = and_parts (int_le l x && int_le x h) (is_between lo hi c) e in
     let u = and_parts (int_le l x) (int_le x h) t.0 in
@@ -47,7 +48,7 @@ abbrev pub LieApart : Bounds → Bounds → Type 0
 LieApart a b = (c : Coordinate) → is_inside a c ≡ true → is_inside b c ≡ true → ⊥
 
 pub apart_where : (a b : Bounds) → are_ordered (meet a b).lo.items (meet a b).hi.items ≡ false → LieApart a b
-apart_where a b e c f g = let t = between_both a.lo.items a.hi.items b.lo.items b.hi.items c f g in cc
+apart_where a b e c f g = let t = between_both a.lo.items a.hi.items b.lo.items b.hi.items c f g in false≢true (sym e ∙ t)
 
 -- ---- rows of cores apart from a box
 
@@ -95,13 +96,13 @@ AtMost (x ∷ xs) (y ∷ ys) = x ≤ℤ y
 AtMost _ _ = Unit {0}
 
 past_high : (lo hi other_lo other_hi most : List ℤ) (c : Coordinate) → AtMost hi most → begins_above other_lo most ≡ true → is_between lo hi c ≡ true → is_between other_lo other_hi c ≡ true → ⊥
-past_high lo hi [] other_hi most c h e f g = cc
-past_high lo hi (a ∷ other_lo) other_hi [] c h e f g = cc
-past_high lo hi (a ∷ other_lo) [] (m ∷ most) c h e f g = cc
-past_high lo hi (a ∷ other_lo) (b ∷ other_hi) (m ∷ most) [] h e f g = cc
-past_high [] [] (a ∷ other_lo) (b ∷ other_hi) (m ∷ most) (x ∷ c) h e f g = cc
-past_high [] (y ∷ hi) (a ∷ other_lo) (b ∷ other_hi) (m ∷ most) (x ∷ c) h e f g = cc
-past_high (z ∷ lo) [] (a ∷ other_lo) (b ∷ other_hi) (m ∷ most) (x ∷ c) h e f g = cc
+past_high lo hi [] other_hi most c h e f g = false≢true e
+past_high lo hi (a ∷ other_lo) other_hi [] c h e f g = false≢true e
+past_high lo hi (a ∷ other_lo) [] (m ∷ most) c h e f g = false≢true g
+past_high lo hi (a ∷ other_lo) (b ∷ other_hi) (m ∷ most) [] h e f g = false≢true g
+past_high [] [] (a ∷ other_lo) (b ∷ other_hi) (m ∷ most) (x ∷ c) h e f g = false≢true f
+past_high [] (y ∷ hi) (a ∷ other_lo) (b ∷ other_hi) (m ∷ most) (x ∷ c) h e f g = false≢true f
+past_high (z ∷ lo) [] (a ∷ other_lo) (b ∷ other_hi) (m ∷ most) (x ∷ c) h e f g = false≢true f
 past_high (z ∷ lo) (y ∷ hi) (a ∷ other_lo) (b ∷ other_hi) (m ∷ most) (x ∷ c) h e f g =
     let t = and_parts (int_le z x && int_le x y) (is_between lo hi c) f in
     let high = le_from_test x y (and_parts (int_le z x) (int_le x y) t.0).1 in
@@ -111,13 +112,13 @@ past_high (z ∷ lo) (y ∷ hi) (a ∷ other_lo) (b ∷ other_hi) (m ∷ most) (
     omega (arith, ints)
 
 past_low : (lo hi other_lo other_hi least : List ℤ) (c : Coordinate) → AtMost least lo → begins_above least other_hi ≡ true → is_between lo hi c ≡ true → is_between other_lo other_hi c ≡ true → ⊥
-past_low lo hi other_lo other_hi [] c h e f g = cc
-past_low lo hi other_lo [] (m ∷ least) c h e f g = cc
-past_low lo hi [] (b ∷ other_hi) (m ∷ least) c h e f g = cc
-past_low lo hi (a ∷ other_lo) (b ∷ other_hi) (m ∷ least) [] h e f g = cc
-past_low [] [] (a ∷ other_lo) (b ∷ other_hi) (m ∷ least) (x ∷ c) h e f g = cc
-past_low [] (y ∷ hi) (a ∷ other_lo) (b ∷ other_hi) (m ∷ least) (x ∷ c) h e f g = cc
-past_low (z ∷ lo) [] (a ∷ other_lo) (b ∷ other_hi) (m ∷ least) (x ∷ c) h e f g = cc
+past_low lo hi other_lo other_hi [] c h e f g = false≢true e
+past_low lo hi other_lo [] (m ∷ least) c h e f g = false≢true e
+past_low lo hi [] (b ∷ other_hi) (m ∷ least) c h e f g = false≢true g
+past_low lo hi (a ∷ other_lo) (b ∷ other_hi) (m ∷ least) [] h e f g = false≢true g
+past_low [] [] (a ∷ other_lo) (b ∷ other_hi) (m ∷ least) (x ∷ c) h e f g = false≢true f
+past_low [] (y ∷ hi) (a ∷ other_lo) (b ∷ other_hi) (m ∷ least) (x ∷ c) h e f g = false≢true f
+past_low (z ∷ lo) [] (a ∷ other_lo) (b ∷ other_hi) (m ∷ least) (x ∷ c) h e f g = false≢true f
 past_low (z ∷ lo) (y ∷ hi) (a ∷ other_lo) (b ∷ other_hi) (m ∷ least) (x ∷ c) h e f g =
     let t = and_parts (int_le z x && int_le x y) (is_between lo hi c) f in
     let low = le_from_test z x (and_parts (int_le z x) (int_le x y) t.0).0 in

@@ -1,6 +1,7 @@
 -- The rows of bands of chunks, one band after the other.
 use Rattle.std.proofs.Common.{◌≡◌, ℕ, zero, suc, ◌+◌, ◌-◌, ◌*◌, ◌<◌, ◌≤◌, ℤ, pos, ◌≤ℤ◌, ◌<ℤ◌, ◌+ℤ◌, int_le, ◌&&◌, Bool, true, false, cond, List, [], ◌∷◌, ◌++◌, length, get_or, take, drop, refl, sym, ap, ◌∙◌, subst, add-one, arith}
 use Rattle.std.specs.Int.{int_min}
+use Rattle.std.proofs.lemmas.Bool.{false≢true}
 use Rattle.std.proofs.lemmas.Int.{ints, clamps}
 use Rattle.std.proofs.lemmas.List.{append-nil, drop_all, take_all}
 use Rattle.std.specs.Cmp.{int_cmp_is}
@@ -88,8 +89,8 @@ next_begins d f = ap (λ (n : ℕ). d.lo +ℤ pos n) (stepped f d.chunk)
     stepped f c = grind arith
 
 core_below : (d : Dimension) (dims : List Dimension) (k : ChunkNumber) (f : ℕ) (c : Coordinate) → 0 < d.chunk → has_core (d ∷ dims) k ≡ true → first_of k ≤ f → is_inside (core (d ∷ dims) k) c ≡ true → IsBelow (first_in d (suc f)) c
-core_below d dims [] f c some e l h = absurd cc
-core_below d dims (k ∷ ks) f [] some e l h = absurd cc
+core_below d dims [] f c some e l h = absurd (false≢true e)
+core_below d dims (k ∷ ks) f [] some e l h = absurd (false≢true h)
 core_below d dims (k ∷ ks) f (x ∷ c) some e l h =
     let t = and_parts (int_le (first_in d k) x && int_le x (int_min d.hi (last_in d k))) (is_inside (core dims ks) c) h in
     let high = le_from_test x (int_min d.hi (last_in d k)) (and_parts (int_le (first_in d k) x) (int_le x (int_min d.hi (last_in d k))) t.0).1 in
@@ -99,8 +100,8 @@ core_below d dims (k ∷ ks) f (x ∷ c) some e l h =
     subst (λ (z : ℤ). x <ℤ z) (sym begins) below
 
 core_from : (d : Dimension) (dims : List Dimension) (k : ChunkNumber) (f : ℕ) (c : Coordinate) → has_core (d ∷ dims) k ≡ true → f < first_of k → is_inside (core (d ∷ dims) k) c ≡ true → IsFrom (first_in d (suc f)) c
-core_from d dims [] f c e l h = absurd cc
-core_from d dims (k ∷ ks) f [] e l h = absurd cc
+core_from d dims [] f c e l h = absurd (false≢true e)
+core_from d dims (k ∷ ks) f [] e l h = absurd (false≢true h)
 core_from d dims (k ∷ ks) f (x ∷ c) e l h =
     let t = and_parts (int_le (first_in d k) x && int_le x (int_min d.hi (last_in d k))) (is_inside (core dims ks) c) h in
     let low = le_from_test (first_in d k) x (and_parts (int_le (first_in d k) x) (int_le x (int_min d.hi (last_in d k))) t.0).0 in
@@ -116,7 +117,7 @@ bands_apart [] margins f a (chunk ∷ b) ha hb la lb some = absurd (none chunk.a
   where
     none : (k : ChunkNumber) → has_core [] k ≡ true → f < first_of k → ⊥
     none [] e l = omega (arith, l)
-    none (k ∷ ks) e l = cc
+    none (k ∷ ks) e l = false≢true e
 bands_apart (d ∷ dims) margins f a b ha hb la lb some =
     core_rows-append (d ∷ dims) margins a b
     ∙ one_after_the_other (first_in d (suc f)) (core_rows (d ∷ dims) margins a) (core_rows (d ∷ dims) margins b) (IsRising-core_rows (d ∷ dims) margins a) (IsRising-core_rows (d ∷ dims) margins b)

@@ -1,6 +1,7 @@
 -- How many rows cores have.
 use Rattle.std.proofs.Common.{◌≡◌, ℕ, suc, ◌+◌, ◌<◌, ◌≤◌, ◌^◌, ℤ, Bool, true, false, cond, List, [], ◌∷◌, length, ap, arith}
-use Rattle.std.specs.Prelude.{filter}
+use Rattle.std.specs.Prelude.{nat_lt, filter}
+use Rattle.std.proofs.lemmas.Bool.{ltb-true}
 use Rattle.std.specs.declared.cmp.Ordering.{Ordering}
 use Rattle.std.specs.declared.cmp.Ordering.TheVariants.{Less, Equal, Greater}
 use Rattle.cell_values.specs.declared.datum.Cell.{Cell}
@@ -63,3 +64,12 @@ all_counted count rest chunks e few is dims margins =
     let all = is dims margins in
     let none : length (core_rows dims margins rest) ≡ 0 = ap (λ (cs : List Chunk). length (core_rows dims margins cs)) e in
     omega (arith, all, none, few)
+
+-- nothing is left
+pub all_few : (count : ℕ) (rest chunks : List Chunk) → (nat_lt count (2 ^ 63)) ≡ true → length rest ≡ 0 → IsCounted count rest chunks
+    → (dims : List Dimension) (margins : List ℕ) → length (core_rows dims margins chunks) < 2 ^ 63
+all_few count [] chunks small none is dims margins =
+    let all : length (core_rows dims margins chunks) ≤ count + 0 = is dims margins in
+    let few = ltb-true count (2 ^ 63) small in
+    omega (arith, all, few)
+all_few count (chunk ∷ rest) chunks small none is dims margins = absurd (omega (arith, none))

@@ -2,6 +2,7 @@
 use Rattle.std.proofs.Common.{◌≡◌, ℕ, Bool, true, false, cond, ◌||◌, ◌⊎◌, inl, inr, List, [], ◌∷◌, length, refl, sym, ap, ◌∙◌}
 use Rattle.std.specs.List.{AllByRecursion}
 use Rattle.std.specs.Ordering.{is_eq}
+use Rattle.std.proofs.lemmas.Bool.{false≢true}
 use Rattle.std.proofs.lemmas.Cmp.{lists_total, nat_cmp_total, tied_itself}
 use Rattle.cell_values.specs.declared.datum.Row.{Row}
 use Rattle.cell_values.specs.declared.schema.Bounds.{Bounds}
@@ -44,7 +45,7 @@ or_right false r e = e
 -- the chunk of a core that has a row of other chunks' cores is one of these
 pub core_listed : (dims : List Dimension) (margins : List ℕ) (chunks : List Chunk) (k : ChunkNumber) → AreNear dims → AllByRecursion (λ n. length n ≡ length dims) (numbers chunks) → length k ≡ length dims
     → has_cell dims (core_rows dims margins chunks) k ≡ true → is_listed k (numbers chunks) ≡ true
-core_listed dims margins [] k near sized l e = absurd cc
+core_listed dims margins [] k near sized l e = absurd (false≢true e)
 core_listed dims margins (chunk ∷ chunks) k near sized l e =
     cases (in_both (core dims k) (core dims chunk.at.items) (chunk_rows dims margins chunk)) (core_listed dims margins chunks k near sized.1 l)
   where

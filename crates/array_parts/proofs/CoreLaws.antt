@@ -1,6 +1,7 @@
 -- The rows of cores.
-use Rattle.std.proofs.Common.{◌≡◌, ℕ, List, [], ◌∷◌, Some, None, Result, Ok, Err, sym, ap, ◌∙◌, subst}
+use Rattle.std.proofs.Common.{◌≡◌, ℕ, List, [], ◌∷◌, Result, Ok, Err, sym, ap, ◌∙◌, subst}
 use Rattle.std.specs.List.{AllByRecursion}
+use Rattle.std.proofs.lemmas.Option.{none-some}
 use Rattle.std.specs.Prelude.{IsTrue}
 use Rattle.std.specs.declared.cmp.Ordering.{Ordering}
 use Rattle.std.specs.declared.cmp.Ordering.TheVariants.{Less, Equal, Greater}
@@ -96,7 +97,7 @@ arrays_have_cells array meant is whole = subst (λ (s : Schema). HaveCells s arr
   where
     cases : (r : Result (List Row) Broken) → HoldsResult meant.schema array r → HaveCells meant.schema array.margins.items array.chunks
     cases (Ok rows) h = held_cells meant.schema array rows h
-    cases (Err broken) h = absurd (let e : None ≡ Some broken = sym whole ∙ h in cc)
+    cases (Err broken) h = absurd (none-some broken (sym whole ∙ h))
 
 its_rows : (schema : Schema) (array : ChunkedArray) (found : Result (List Row) Broken) → HoldsResult schema array found → unless_broken array.broken (core_rows schema.dimensions array.margins.items array.chunks) ≡ found
 its_rows schema array (Ok rows) h =

@@ -1,6 +1,8 @@
 -- The laws, as they are stated.
-use Rattle.std.proofs.Common.{◌≡◌, ℕ, ◌≤◌, ◌^◌, true, false, Bool, cond, List, [], ◌∷◌, length, Some, None, Ok, Err, Result, refl, sym, ap, ◌∙◌}
+use Rattle.std.proofs.Common.{◌≡◌, ℕ, ◌≤◌, ◌^◌, true, false, Bool, cond, List, [], ◌∷◌, length, Ok, Err, Result, refl, sym, ap, ◌∙◌}
 use Rattle.std.specs.List.{AllByRecursion}
+use Rattle.std.proofs.lemmas.Bool.{false≢true}
+use Rattle.std.proofs.lemmas.Option.{none-some}
 use Rattle.cell_values.specs.declared.datum.Broken.{Broken}
 use Rattle.cell_values.specs.declared.datum.Row.{Row}
 use Rattle.cell_values.specs.declared.schema.Bounds.{Bounds}
@@ -28,7 +30,7 @@ pub record IsHeld (area bounds : Bounds) : Type 0 where
   bound : is_inside bounds at ≡ true
 
 held_row : (area bounds : Bounds) (rows : List Row) → AllByRecursion (λ row. is_inside bounds row.at.items ≡ true) rows → is_not_empty (within area rows) ≡ true → IsHeld area bounds
-held_row area bounds [] a e = absurd cc
+held_row area bounds [] a e = absurd (false≢true e)
 held_row area bounds (row ∷ rows) a e = cases (is_inside area row.at.items) refl e (held_row area bounds rows a.1)
   where
     cases : (t : Bool) → is_inside area row.at.items ≡ t → is_not_empty (cond t (row ∷ within area rows) (within area rows)) ≡ true → (is_not_empty (within area rows) ≡ true → IsHeld area bounds) → IsHeld area bounds
@@ -64,4 +66,4 @@ arrays_are_sound array meant is whole = cases meant.rows is.cells
   where
     cases : (r : Result (List Row) Broken) → HoldsResult meant.schema array r → HavePlaces array.schema array.margins.items array.chunks
     cases (Ok rows) h = rw is.schema (held_rows_placed meant.schema array rows h)
-    cases (Err broken) h = absurd (let e : None ≡ Some broken = sym whole ∙ h in cc)
+    cases (Err broken) h = absurd (none-some broken (sym whole ∙ h))

@@ -1,5 +1,5 @@
 -- Lists of positions, and rows at places.
-use Rattle.std.proofs.Common.{◌≡◌, ℕ, suc, ◌<◌, ℤ, List, [], ◌∷◌, ◌++◌, length, refl, ap}
+use Rattle.std.proofs.Common.{◌≡◌, ℕ, suc, ◌<◌, ℤ, List, [], ◌∷◌, ◌++◌, length, refl, sym, ap, arith}
 use Rattle.std.specs.List.{AllByRecursion}
 use Rattle.cell_values.specs.declared.datum.Cell.{Cell}
 use Rattle.cell_values.specs.declared.datum.Row.{Row}
@@ -7,6 +7,12 @@ use Rattle.array_geom.specs.Rows.{placed}
 use Rattle.array_geom.specs.Chunks.{AreRising}
 use Rattle.array_geom.specs.Geometry.{coordinate_in}
 use Rattle.array_geom.specs.Link.{rows_in}
+
+pub one_less : (m n : ℕ) → suc m ≡ suc n → m ≡ n
+one_less m n e = omega (arith, e)
+
+pub not_none : (n : ℕ) → 0 ≡ suc n → ⊥
+not_none n e = omega (arith, e)
 
 -- a list without one of its items
 pub All-without : {A : Type 0} (P : A → Type 0) (a : List A) (x : A) (b : List A) → AllByRecursion P (a ++ x ∷ b) → AllByRecursion P (a ++ b)
@@ -26,8 +32,8 @@ length-more (y ∷ a) x = ap suc (length-more a x)
 pub rows_in-more : (low : List ℤ) (lengths positions : List ℕ) (cells : List Cell) (p : ℕ) (x : Cell) → length cells ≡ length positions
     → rows_in low lengths (positions ++ p ∷ []) (cells ++ x ∷ []) ≡ rows_in low lengths positions cells ++ placed (coordinate_in low lengths p) x ∷ []
 rows_in-more low lengths [] [] p x e = refl
-rows_in-more low lengths [] (y ∷ cells) p x e = cc
-rows_in-more low lengths (q ∷ positions) [] p x e = cc
+rows_in-more low lengths [] (y ∷ cells) p x e = absurd (not_none (length cells) (sym e))
+rows_in-more low lengths (q ∷ positions) [] p x e = absurd (not_none (length positions) e)
 rows_in-more low lengths (q ∷ positions) (y ∷ cells) p x e =
-    let shorter : length cells ≡ length positions = cc in
-    ap (λ (rows : List Row). placed (coordinate_in low lengths q) y ∷ rows) (rows_in-more low lengths positions cells p x shorter)
+    ap (λ (rows : List Row). placed (coordinate_in low lengths q) y ∷ rows)
+    (rows_in-more low lengths positions cells p x (one_less (length cells) (length positions) e))

@@ -16,7 +16,7 @@ use Rattle.array_geom.specs.Chunks.{AreRising}
 use Rattle.array_geom.specs.Geometry.{coordinate_in, frame, frame_low, frame_lengths, volume}
 use Rattle.array_geom.specs.Link.{rows_in, IsPart}
 use Rattle.array_parts.specs.Made.{IsPlaced, IsMadeBy, with_cell, with_next}
-use Rattle.array_parts.proofs.Lists.{All-without, AreRising-without, length-more, rows_in-more}
+use Rattle.array_parts.proofs.Lists.{All-without, AreRising-without, length-more, not_none, one_less, rows_in-more}
 
 -- these cells of the old chunk are still to come; with what becomes of them the chunk is made
 pub record IsOngoing (change : Coordinate → Cell → Option Cell) (low : List ℤ) (lengths : List ℕ) (old made : Chunk) (left : List ℕ) (cells : List Cell) : Type 0 where
@@ -31,7 +31,7 @@ at_first : (change : Coordinate → Cell → Option Cell) (low : List ℤ) (leng
     → length old.cells ≡ length old.positions → AllByRecursion (λ p. p < volume lengths) old.positions → IsOngoing change low lengths old made old.positions old.cells
 at_first change low lengths old made n p c e f = record {
   number = n;
-  each = cc;
+  each = ap (λ (cs : List Cell). length cs) c ∙ sym (ap (λ (ps : List ℕ). length ps) p);
   as_many = e;
   in_frame = subst (λ (ps : List ℕ). AllByRecursion (λ q. q < volume lengths) (ps ++ old.positions)) (sym p) f;
   rising = λ r. subst (λ (ps : List ℕ). AreRising (ps ++ old.positions)) (sym p) r;
@@ -53,7 +53,7 @@ with_none : (change : Coordinate → Cell → Option Cell) (low : List ℤ) (len
 with_none change low lengths old made p left x cells e h = record {
   number = h.number;
   each = h.each;
-  as_many = let f = h.as_many in cc;
+  as_many = one_less (length cells) (length left) h.as_many;
   in_frame = All-without (λ q. q < volume lengths) made.positions p left h.in_frame;
   rising = λ r. AreRising-without made.positions p left (h.rising r);
   rows = ap (λ (o : Option Cell). rows_in low lengths made.positions made.cells ++ put_first (coordinate_in low lengths p) o (cell_wise change (rows_in low lengths left cells))) (sym e) ∙ h.rows;
@@ -64,7 +64,7 @@ with_some : (change : Coordinate → Cell → Option Cell) (low : List ℤ) (len
 with_some change low lengths old made p left x y cells e h = record {
   number = h.number;
   each = length-more made.cells y ∙ ap suc h.each ∙ sym (length-more made.positions p);
-  as_many = let f = h.as_many in cc;
+  as_many = one_less (length cells) (length left) h.as_many;
   in_frame = subst (AllByRecursion (λ q. q < volume lengths)) (sym (append_assoc made.positions (p ∷ []) left)) h.in_frame;
   rising = λ r. subst AreRising (sym (append_assoc made.positions (p ∷ []) left)) (h.rising r);
   rows =
@@ -76,7 +76,7 @@ with_some change low lengths old made p left x y cells e h = record {
 
 goes_on : (change : Coordinate → Cell → Option Cell) (low : List ℤ) (lengths : List ℕ) (old made : Chunk) (p : ℕ) (left : List ℕ) (cells : List Cell)
     → IsOngoing change low lengths old made (p ∷ left) cells → IsOngoing change low lengths old (with_next (change (coordinate_in low lengths p)) p made cells) left (drop 1 cells)
-goes_on change low lengths old made p left [] h = let f : 0 ≡ suc (length left) = h.as_many in cc
+goes_on change low lengths old made p left [] h = absurd (not_none (length left) h.as_many)
 goes_on change low lengths old made p left (x ∷ cells) h = cases (change (coordinate_in low lengths p) x) refl
   where
     cases : (o : Option Cell) → change (coordinate_in low lengths p) x ≡ o → IsOngoing change low lengths old (with_cell made p o) left cells
@@ -129,7 +129,7 @@ done change dims margins low lengths old made positions i cells e f l h =
   where
     none_left : (cs : List Cell) → IsOngoing change low lengths old made [] cs → IsOngoing change low lengths old made [] []
     none_left [] k = k
-    none_left (x ∷ cs) k = let f : suc (length cs) ≡ 0 = k.as_many in cc
+    none_left (x ∷ cs) k = absurd (not_none (length cs) (sym k.as_many))
 
 -- what is made of a part of some rows is that part of what is made of the rows
 pub part_made : (change : Coordinate → Cell → Option Cell) (dims : List Dimension) (margins : List ℕ) (rows : List Row) (old new : Chunk) → IsPart dims margins rows old → IsMadeBy (cell_wise change) dims margins old new → IsPart dims margins (cell_wise change rows) new

@@ -5,6 +5,8 @@ pub mod CellsHolding
 pub mod FixedPlaces
 pub mod Held
 pub mod NullAlone
+pub mod PairFronts
 pub mod PartLengths
 pub mod Parts
 pub mod Projected
+pub mod Stops

@@ -16,3 +16,12 @@ pub frame_on : (xs : List Dimension) (i : ℕ) (d : Dimension) → i < length xs
 frame_on xs i d h =
     capped (frame_size (take i xs)) (frame_length (slice_index_or xs i d)) (2 ^ 64 - 1) (omega arith)
     ∙ ap (λ n. min n (2 ^ 64 - 1)) (sym (ap frame_size (take_more xs i d h) ∙ frame_more (take i xs) (slice_index_or xs i d)))
+
+pub frame_grown : (xs : List Dimension) (i : ℕ) (d : Dimension) (size n grown : ℕ) → i < length xs → d ≡ slice_index_or xs i d
+    → size ≡ min (frame_size (take i xs)) (2 ^ 64 - 1) → n ≡ min (frame_length d) (2 ^ 64 - 1)
+    → grown ≡ min (size * n) (2 ^ 64 - 1) → grown ≡ min (frame_size (take (i + 1) xs)) (2 ^ 64 - 1)
+frame_grown xs i d size n grown h same before length_is is =
+    let length_here : n ≡ min (frame_length (slice_index_or xs i d)) (2 ^ 64 - 1)
+    = length_is ∙ ap (λ (e : Dimension). min (frame_length e) (2 ^ 64 - 1)) same in
+    is ∙ ap (λ k. min (k * n) (2 ^ 64 - 1)) before
+    ∙ ap (λ k. min (min (frame_size (take i xs)) (2 ^ 64 - 1) * k) (2 ^ 64 - 1)) length_here ∙ frame_on xs i d h

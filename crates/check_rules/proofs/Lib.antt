@@ -10,6 +10,7 @@ pub mod OperatorsHolding
 pub mod ReadLemmas
 pub mod RowLemmas
 pub mod RulesHolding
+pub mod SortLemmas
 pub mod Steps
 pub mod TextLemmas
 pub mod Turns

@@ -1,5 +1,6 @@
 -- What is read as a literal spells it.
 use Rattle.std.proofs.Common.{◌≡◌, ◌⊎◌, inl, inr, ℤ, Bool, true, false, Some, List, [], ◌∷◌, ◌++◌, refl, sym, ap, subst, ◌∙◌, append_assoc, append-nil}
+use Rattle.std.proofs.lemmas.Option.{none-some}
 use Rattle.cell_values.specs.Table.{negation}
 use Rattle.cell_values.specs.declared.datum.Datum.{Datum}
 use Rattle.cell_values.specs.declared.datum.Datum.TheVariants.{Int}
@@ -261,13 +262,13 @@ before_element : (bare : Bool) (x : Mark) (xs : List Mark) → Sound bare xs →
 before_element bare (Symbol LeftParen) xs later es all e = next_opened bare es all xs (later es all Opened e)
 before_element true (Symbol Minus) xs later es all e = next_negative es all xs (later es all Negative e)
 before_element true (Value v) xs later es all e = with_whole true es (v ∷ []) all (Value v ∷ xs) xs (inr (refl, refl, inl refl)) (later (es ++ (v ∷ []) ∷ []) all Ended e)
-before_element true _ xs later es all e = cc
-before_element false _ xs later es all e = cc
+before_element true _ xs later es all e = absurd (none-some all e)
+before_element false _ xs later es all e = absurd (none-some all e)
 
 before_value : (bare : Bool) (x : Mark) (xs : List Mark) → Sound bare xs → (es all : List (List Datum)) (vs : List Datum) → read_marks bare (x ∷ xs) (begun es (Further vs)) ≡ Some all → Reads bare es (Further vs) all (x ∷ xs)
 before_value bare (Symbol Minus) xs later es all vs e = further_signed bare es all vs xs (later es all (Signed vs) e)
 before_value bare (Value v) xs later es all vs e = further_value bare es all vs v xs (later es all (Valued (vs ++ v ∷ [])) e)
-before_value bare _ xs later es all vs e = cc
+before_value bare _ xs later es all vs e = absurd (none-some all e)
 
 sound_step : (bare : Bool) (x : Mark) (xs : List Mark) → Sound bare xs → Sound bare (x ∷ xs)
 sound_step bare (Symbol LeftBracket) xs later es all Start e = start_first bare es all xs (later es all First e)
@@ -283,7 +284,7 @@ sound_step bare (Symbol Comma) xs later es all (Valued vs) e = valued_comma bare
 sound_step bare (Symbol RightParen) xs later es all (Valued vs) e = valued_end bare es all vs xs (later (es ++ vs ∷ []) all Ended e)
 sound_step bare (Symbol Comma) xs later es all Ended e = ended_comma bare es all xs (later es all Next e)
 sound_step bare (Symbol RightBracket) xs later es all Ended e = ended_end bare es all xs (later es all Closed e)
-sound_step bare _ xs later es all _ e = cc
+sound_step bare _ xs later es all _ e = absurd (none-some all e)
 
 sound_from : (bare : Bool) (xs : List Mark) → Sound bare xs
 sound_from bare [] es all Closed e = read_closed bare es all (cc)

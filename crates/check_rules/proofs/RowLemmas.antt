@@ -1,5 +1,5 @@
 -- The rows of a literal, element by element.
-use Rattle.std.proofs.Common.{◌≡◌, ℕ, suc, ℤ, pos, ◌+ℤ◌, ◌+◌, ◌<◌, ◌≤◌, ◌==◌, Bool, true, false, ◌&&◌, List, [], ◌∷◌, ◌++◌, length, drop, slice_index_or, Option, Some, None, refl, sym, ap, ◌∙◌, append_assoc, arith}
+use Rattle.std.proofs.Common.{◌≡◌, ℕ, suc, ℤ, pos, ◌+ℤ◌, ◌+◌, ◌<◌, ◌≤◌, ◌==◌, Bool, true, false, ◌&&◌, List, [], ◌∷◌, ◌++◌, length, drop, slice_index_or, Option, Some, None, refl, sym, ap, subst, ◌∙◌, append_assoc, arith}
 use Rattle.std.specs.Prelude.{int_le, if◌then◌else◌}
 use Rattle.std.proofs.Math.Seq.{drop-cons}
 use Rattle.std.proofs.lemmas.Bool.{ne_eqb}
@@ -64,3 +64,22 @@ module _ (attributes : List Attribute) (hi : ℤ) (elements : List (List Datum))
       → row ≡ placed (at ∷ []) (Full (slice_index_or elements i d)) → onto before (Left i at) ≡ onto (before ++ row ∷ []) (Left (i + 1) (at +ℤ pos 1))
   adds before row i d at h e some same =
       ap (onto before) (next_element i d at h ∙ by_test _ true _ e) ∙ holds_row (slice_index_or elements i d) before row (Left (i + 1) (at +ℤ pos 1)) at some same
+
+  -- one element more, with values
+  pub more_rows : (before after : List Row) (row : Row) (i : ℕ) (vs : List Datum) (at : ℤ) {all : Option (List Row)}
+      → i < length elements → vs ≡ slice_index_or elements i vs → (int_le at hi && fits_element attributes vs) ≡ true → (vs ≡ [] → ⊥)
+      → row ≡ placed (at ∷ []) (Full vs) → after ≡ before ++ row ∷ [] → onto before (Left i at) ≡ all → onto after (Left (i + 1) (at +ℤ pos 1)) ≡ all
+  more_rows before after row i vs at h is fits some same grown e =
+      ap (λ (rows : List Row). onto rows (Left (i + 1) (at +ℤ pos 1))) grown
+      ∙ sym (adds before row i vs at h (subst (λ (us : List Datum). (int_le at hi && fits_element attributes us) ≡ true) is fits)
+      (λ none. some (is ∙ none)) (same ∙ ap (λ (us : List Datum). placed (at ∷ []) (Full us)) is))
+      ∙ e
+
+  -- one that leaves its place empty
+  pub same_rows : (before after : List Row) (i : ℕ) (vs : List Datum) (at : ℤ) {all : Option (List Row)}
+      → i < length elements → vs ≡ slice_index_or elements i vs → (int_le at hi && fits_element attributes vs) ≡ true → vs ≡ []
+      → after ≡ before → onto before (Left i at) ≡ all → onto after (Left (i + 1) (at +ℤ pos 1)) ≡ all
+  same_rows before after i vs at h is fits none same e =
+      ap (λ (rows : List Row). onto rows (Left (i + 1) (at +ℤ pos 1))) same
+      ∙ sym (skips before i vs at h (subst (λ (us : List Datum). (int_le at hi && fits_element attributes us) ≡ true) is fits) (sym is ∙ none))
+      ∙ e

@@ -4,6 +4,7 @@ pub mod CoreSteps
 pub mod FitLaws
 pub mod FrameLaws
 pub mod MergeLaws
+pub mod NearFronts
 pub mod NearLaws
 pub mod NextLaws
 pub mod NumberLaws

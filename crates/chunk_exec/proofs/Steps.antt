@@ -72,3 +72,10 @@ next_chunk f P chunks i chunk least next first lt e all rest en =
     let d : drop i chunks ≡ chunk ∷ drop (i + 1) chunks = drop-cons chunks i chunk lt ∙ ap (λ (x : Chunk). x ∷ drop (suc i) chunks) (sym e) ∙ ap (λ (n : ℕ). chunk ∷ drop n chunks) one in
     let a : AllByRecursion P (chunk ∷ drop (i + 1) chunks) = subst (AllByRecursion P) d all in
     (a.1, ap (λ (z : Option Broken). least_from z (flat_map f (drop (i + 1) chunks))) en ∙ sym (least_of_both least (f chunk) (flat_map f (drop (i + 1) chunks))) ∙ ap (λ (z : List Chunk). least_from least (flat_map f z)) (sym d) ∙ rest)
+
+-- what holds of each chunk from a place on holds of the one there
+pub holds_next : (P : Chunk → Type 0) (chunks : List Chunk) (i : ℕ) (chunk : Chunk) → i < length chunks → chunk ≡ get_or chunks i chunk
+    → AllByRecursion P (drop i chunks) → P chunk
+holds_next P chunks i chunk lt e all =
+    let all_from : AllByRecursion P (get_or chunks i chunk ∷ drop (suc i) chunks) = subst (AllByRecursion P) (drop-cons chunks i chunk lt) all in
+    subst P (sym e) all_from.0

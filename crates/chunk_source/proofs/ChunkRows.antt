@@ -1,14 +1,17 @@
 -- The rows of chunks, cell by cell and chunk by chunk.
-use Rattle.std.proofs.Common.{◌≡◌, ℕ, ◌+◌, ◌<◌, ◌≤◌, ℤ, List, [], ◌∷◌, ◌++◌, length, drop, refl, sym, ap, ◌∙◌, subst, append_assoc}
+use Rattle.std.proofs.Common.{◌≡◌, ℕ, zero, suc, ◌+◌, ◌<◌, ◌≤◌, ℤ, List, [], ◌∷◌, ◌++◌, length, take, drop, refl, sym, ap, ◌∙◌, subst, append_assoc, arith}
 use Rattle.std.specs.List.{AllByRecursion, flat_map}
 use Rattle.std.specs.Prelude.{slice_index_or}
-use Rattle.std.proofs.lemmas.List.{drop_more, drop_all, append-nil}
+use Rattle.std.proofs.lemmas.List.{drop_more, drop_all, append-nil, map_more}
+use Rattle.arrayvec.specs.ArrayVec.{ArrayVec}
 use Rattle.cell_values.specs.declared.datum.Cell.{Cell}
 use Rattle.cell_values.specs.declared.datum.Row.{Row}
 use Rattle.cell_values.specs.declared.schema.Schema.{Schema}
 use Rattle.array_geom.specs.declared.chunk.Chunk.{Chunk}
+use Rattle.array_geom.specs.Geometry.{volume}
 use Rattle.array_geom.specs.Link.{chunk_rows, rows_in}
 use Rattle.array_parts.specs.Placed.{HasPlaces}
+use Rattle.chunk_source.specs.Found.{numbers_in}
 
 -- ---- cells
 
@@ -40,7 +43,28 @@ pub done : (low : List ℤ) (lengths : List ℕ) (before rows : List Row) (i : �
 done low lengths before rows i cells positions all l h =
     sym (append-nil rows) ∙ ap (λ (ps : List ℕ). rows ++ rows_in low lengths ps cells) (sym (drop_all i positions l)) ∙ h
 
+-- each place is one of the frame
+place_at : (n : ℕ) (positions : List ℕ) (i : ℕ) → AllByRecursion (λ p. p < n) positions → i < length positions → slice_index_or positions i 0 < n
+place_at n [] i a h = absurd (omega (arith, h))
+place_at n (p ∷ positions) zero a h = a.0
+place_at n (p ∷ positions) (suc i) a h = place_at n positions i a.1 (omega (arith, h))
+
+pub place_inside : (lengths own positions listed : List ℕ) (i : ℕ) → own ≡ lengths → listed ≡ positions → AllByRecursion (λ p. p < volume lengths) positions
+    → i < length listed → slice_index_or listed i 0 < volume own
+place_inside lengths own positions listed i e f a h =
+    subst (λ (ns : List ℕ). slice_index_or listed i 0 < volume ns) (sym e)
+    (place_at (volume lengths) listed i (subst (AllByRecursion (λ p. p < volume lengths)) (sym f) a) h)
+
 -- ---- chunks
+
+-- the numbers of chunks, one more
+pub number_more : (chunks : List Chunk) (i : ℕ) (chunk : Chunk) (at : ArrayVec ℕ) (old new : List (ArrayVec ℕ)) → i < length chunks
+    → chunk ≡ slice_index_or chunks i chunk → old ≡ numbers_in (take i chunks) → at ≡ chunk.at → new ≡ old ++ at ∷ []
+    → new ≡ numbers_in (take (i + 1) chunks)
+number_more chunks i chunk at old new l item is same pushed =
+    pushed ∙ ap (λ (z : List (ArrayVec ℕ)). z ++ at ∷ []) is
+    ∙ ap (λ (k : ArrayVec ℕ). numbers_in (take i chunks) ++ k ∷ []) (same ∙ ap (λ (z : Chunk). z.at) item)
+    ∙ sym (map_more (λ (z : Chunk). z.at) chunks i chunk l)
 
 -- with the chunks that are left, the rows become those of all; each chunk has its places
 pub record AreGathered (schema : Schema) (margins : List ℕ) (rows : List Row) (left all : List Chunk) : Type 0 where

@@ -10,9 +10,10 @@ use Rattle.array_geom.specs.Link.{is_listed}
 use Rattle.array_parts.proofs.PartLemmas.{each_listed}
 use Rattle.logical_plan.specs.declared.parts.Leaf.{Leaf}
 use Rattle.logical_plan.specs.Meaning.{Database}
+use Rattle.chunk_source.specs.declared.memory.leaf_array.LeafArray.{LeafArray}
 use Rattle.chunk_source.specs.declared.sources.asked.Asked.{Asked}
 use Rattle.chunk_source.specs.InMemory.{MemoryChunks, memory_state, sure_state}
-use Rattle.chunk_source.specs.Source.{SourceState, Reads, version_chunks, listed, numbers_of, is_among, IsStored, IsChunkIn, Keeps, AsksFor, AsksFront, asks}
+use Rattle.chunk_source.specs.Source.{SourceState, Reads, version_chunks, listed, numbers_of, is_among, IsStored, IsChunkIn, Keeps, AsksFront, asks}
 
 -- ---- states
 
@@ -26,6 +27,10 @@ keeps_on a b c h k = record {
   tells = λ db. (λ t. (h.tells db).0 ((k.tells db).0 t), λ t. (k.tells db).1 ((h.tells db).1 t));
   later = let p = h.later in let q = k.later in omega (arith, p, q);
 }
+
+-- what was asked for is none of the arrays
+pub keeps_asked : (arrays : List LeafArray) (old new : List Asked) → Keeps (sure_state (record { arrays = arrays; asked = old })) (sure_state (record { arrays = arrays; asked = new }))
+keeps_asked arrays old new = record { stored = refl; chunks = refl; tells = λ db. (λ t. t, λ t. t); later = omega arith }
 
 -- a source in memory, some of whose calls fail
 pub keeps_turned : (old new : MemoryChunks) → Keeps (sure_state old.sure) (sure_state new.sure) → old.turns.faults ≤ new.turns.faults → Keeps (memory_state old) (memory_state new)
@@ -113,6 +118,9 @@ front_after all there old mid new e same front = record {
   in_order = sym e ∙ front.in_order;
   asked = front.asked ∙ ap (λ a. a ++ front.done) same;
 }
+
+pub asked_after : (all there : List Asked) (old mid new : SourceState) → all ≡ there → mid.asked ≡ old.asked → new.asked ≡ mid.asked ++ all → new.asked ≡ old.asked ++ there
+asked_after all there old mid new e same is = is ∙ ap (λ a. a ++ all) same ∙ ap (λ a. old.asked ++ a) e
 
 -- the call for the chunk behind some first ones failed
 pub front_at : (first before now : SourceState) (number : ℕ) (all : List (ArrayVec ℕ)) (i : ℕ) (at : ArrayVec ℕ) → i < length all → at ≡ get_or all i at → before.asked ≡ first.asked ++ map (asks number) (take i all)

@@ -49,21 +49,31 @@ later_in_row p q v h e r =
     let c : p / v * v ≡ q / v * v = ap (λ z. z * v) e in
     omega (arith, a, b, c)
 
+less_behind : (l : ℤ) (a b : ℕ) → (l +ℤ pos a) <ℤ (l +ℤ pos b) → a < b
+less_behind l a b h = omega (arith, ints, h)
+
+same_behind : (l : ℤ) (a b : ℕ) → l +ℤ pos a ≡ l +ℤ pos b → a ≡ b
+same_behind l a b h = omega (arith, ints, h)
+
+equal-less : Equal ≡ Less → ⊥
+equal-less e = cc
+
+greater-less : Greater ≡ Less → ⊥
+greater-less e = cc
+
+by_rows : (l : ℤ) (p q v : ℕ) (t o : Ordering) → 0 < v → t ≡ int_cmp (l +ℤ pos (p / v)) (l +ℤ pos (q / v)) → ordering_then t o ≡ Less → (o ≡ Less → p % v < q % v) → p < q
+by_rows l p q v Less o some r f rest = later_row p q v some (less_behind l (p / v) (q / v) (int_ranked _ _ Less r))
+by_rows l p q v Equal o some r f rest = later_in_row p q v some (same_behind l (p / v) (q / v) (int_ranked _ _ Equal r)) (rest f)
+by_rows l p q v Greater o some r f rest = absurd (greater-less f)
+
 -- a coordinate that comes first has the lower place
 place_order : (lo : List ℤ) (ns : List ℕ) (p q : ℕ) → AreLengths ns → row_major (coordinate_in lo ns p) (coordinate_in lo ns q) ≡ Less → p < q
-place_order lo [] p q a e = absurd (let f : Equal ≡ Less = e in cc)
-place_order [] (n ∷ ns) p q a e = absurd (let f : Equal ≡ Less = e in cc)
-place_order (l ∷ lo) (n ∷ ns) p q a e = cases (int_cmp (l +ℤ pos (p / volume ns)) (l +ℤ pos (q / volume ns))) refl e (place_order lo ns (p % volume ns) (q % volume ns) a.1)
-  where
-    cases : (t : Ordering) → t ≡ int_cmp (l +ℤ pos (p / volume ns)) (l +ℤ pos (q / volume ns)) → ordering_then t (row_major (coordinate_in lo ns (p % volume ns)) (coordinate_in lo ns (q % volume ns))) ≡ Less
-        → (row_major (coordinate_in lo ns (p % volume ns)) (coordinate_in lo ns (q % volume ns)) ≡ Less → p % volume ns < q % volume ns) → p < q
-    cases Less r f rest =
-        let b : (l +ℤ pos (p / volume ns)) <ℤ (l +ℤ pos (q / volume ns)) = int_ranked _ _ Less r in
-        later_row p q (volume ns) (some ns a.1) (omega (arith, ints, b))
-    cases Equal r f rest =
-        let b : l +ℤ pos (p / volume ns) ≡ l +ℤ pos (q / volume ns) = int_ranked _ _ Equal r in
-        later_in_row p q (volume ns) (some ns a.1) (omega (arith, ints, b)) (rest f)
-    cases Greater r f rest = absurd cc
+place_order lo [] p q a e = absurd (equal-less e)
+place_order [] (n ∷ ns) p q a e = absurd (equal-less e)
+place_order (l ∷ lo) (n ∷ ns) p q a e =
+    by_rows l p q (volume ns) (int_cmp (l +ℤ pos (p / volume ns)) (l +ℤ pos (q / volume ns)))
+    (row_major (coordinate_in lo ns (p % volume ns)) (coordinate_in lo ns (q % volume ns))) (some ns a.1) refl e
+    (place_order lo ns (p % volume ns) (q % volume ns) a.1)
 
 -- ---- rows and places
 

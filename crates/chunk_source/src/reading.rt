@@ -4,4 +4,5 @@ mod fault;
 mod leaf;
 
 pub use fault::ExecFault;
+pub(crate) use leaf::read_chunks;
 pub use leaf::read_leaf;

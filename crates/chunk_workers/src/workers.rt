@@ -1,5 +1,5 @@
 //! Work on many pieces, some of them at a time.
-ghost use Rattle.std.specs.Prelude.{◌≡◌, ◌<◌, ◌≤◌, ◌+◌, ◌-◌, ◌^◌, length, map, min, IfOk};
+ghost use Rattle.std.specs.Prelude.{◌≡◌, ◌<◌, ◌≤◌, ◌+◌, ◌-◌, ◌^◌, ◌++◌, [], ◌∷◌, length, map, min, take, drop, IfOk, OnOk, MatchResult};
 ghost use Rattle.std.specs.List.{AllByRecursion, AllZip};
 ghost use denote.Param.Send.{IsSend, IsSync};
 
@@ -38,10 +38,76 @@ fn in_turn<P: Drop, M: Drop, W: Work<P, M>, G: Gate>(
     let mut number = first;
     for piece in pieces.into_vec() {
         gate.pass(session, Point::Chunk(number));
-        made.push(work.work(piece)?)?;
+        push_work(&mut made, work, piece)?;
         number = number.wrapping_add(1);
     }
     Ok(made)
+}
+
+/// What becomes of a piece, behind what became of those before it.
+fn push_work<P, M: Drop, W: Work<P, M>>(
+    made: &mut List<M>,
+    work: &W,
+    piece: P,
+) -> Result<(), Memory>
+    requires { W.accepts work.now piece }
+    ensures { OnOk result ((one : M) × W.gives work.now piece one × (made.new ≡ made.old ++ one ∷ [])) }
+{
+    match work.work(piece) {
+        Ok(one) => made.push(one),
+        Err(Memory) => Err(Memory),
+    }
+}
+
+/// The first pieces, and the others.
+fn cut<P: Drop>(pieces: List<P>, at: usize) -> Result<(List<P>, List<P>), Memory>
+    requires { at ≤ length pieces }
+    ensures low { IfOk result (λ parts. parts.0 ≡ take at pieces) }
+    ensures high { IfOk result (λ parts. parts.1 ≡ drop at pieces) }
+{
+    let mut low = pieces.into_vec();
+    match low.split_off(at) {
+        Ok(high) => Ok((List::from_vec(low), List::from_vec(high))),
+        Err(_) => {
+            drop(low);
+            Err(Memory)
+        }
+    }
+}
+
+/// What became of the first pieces, and behind it what became of the others.
+fn joined<M: Drop>(
+    low: Result<List<M>, Memory>,
+    high: Result<List<M>, Memory>,
+) -> Result<List<M>, Memory>
+    ensures { IfOk result (λ made. MatchResult low (λ x. MatchResult high (λ y. made ≡ x ++ y) (λ _. ⊥)) (λ _. ⊥)) }
+{
+    match low {
+        Ok(made) => with_others(made, high),
+        Err(Memory) => {
+            drop(high);
+            Err(Memory)
+        }
+    }
+}
+
+fn with_others<M: Drop>(made: List<M>, others: Result<List<M>, Memory>) -> Result<List<M>, Memory>
+    ensures { IfOk result (λ all. MatchResult others (λ more. all ≡ made ++ more) (λ _. ⊥)) }
+{
+    let mut all = made;
+    match others {
+        Ok(more) => match all.append(more) {
+            Ok(()) => Ok(all),
+            Err(Memory) => {
+                drop(all);
+                Err(Memory)
+            }
+        },
+        Err(Memory) => {
+            drop(all);
+            Err(Memory)
+        }
+    }
 }
 
 /// What becomes of each piece, where each thread has a run of the pieces.
@@ -65,10 +131,7 @@ fn in_parts<R: Threads + Sync, P: Send + Drop, M: Send + Drop, W: Work<P, M>, G:
     let many = workers - few;
     let at = share(pieces.len(), few, workers);
     let second = first.wrapping_add(at as u64);
-    let mut low = pieces.into_vec();
-    let high = low.split_off(at)?;
-    let low = List::from_vec(low);
-    let high = List::from_vec(high);
+    let (low, high) = cut(pieces, at)?;
     let front = move || -> Result<List<M>, Memory>
         requires { IsSync R.row × IsSync W.row × IsSync G.row × IsSend P.row × IsSend M.row × AllByRecursion (W.accepts work.now) low }
         ensures { IfOk result (AllZip (W.gives work.entry.now) low) }
@@ -78,9 +141,7 @@ fn in_parts<R: Threads + Sync, P: Send + Drop, M: Send + Drop, W: Work<P, M>, G:
         ensures { IfOk result (AllZip (W.gives work.entry.now) high) }
     { in_parts(rt, high, many, work, second, session, gate) };
     let (a, b) = join(rt, front, back);
-    let mut made = a?;
-    made.append(b?)?;
-    Ok(made)
+    joined(a, b)
 }
 
 /// What becomes of each piece, in the order of the pieces. At most as many threads as the crew has workers are at work, the caller's

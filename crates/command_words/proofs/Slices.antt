@@ -5,6 +5,7 @@ use Rattle.command_words.specs.declared.words.settings.RunOption.{RunOption}
 use Rattle.command_words.specs.declared.words.settings.Settings.{Settings}
 use Rattle.command_words.specs.Forms.{Word, is_dashed, is_flag}
 use Rattle.command_words.specs.Inner.Reading.{no_settings, next_option, place_of, with_said, with_trace, by_said, by_option, read_scripts, read_settings, read_run}
+use Rattle.command_words.specs.Inner.Reading.{by_script_number, read_generate, read_verb, read_words, read_workers, script_number}
 
 -- the words behind the first one, as the code cuts them
 abbrev pub behind : List Word → List Word
@@ -60,3 +61,51 @@ settings_flag device words settings next name shown option some first shows chos
     ap (read_settings device (behind words)) is
     ∙ sym (flag_reads device (behind words) settings name option (ap (next_option settings) (sym shows) ∙ chosen) flag)
     ∙ sym (ap (λ (l : List Word). read_settings device l settings) (first_word words name some first))
+
+-- what is said of the option may not be said
+pub settings_wrong : (device : Word) (words : List Word) (settings : Settings) (name shown said told : Word) (option : RunOption) (place : ℕ)
+    → 1 ≤ length words → name ≡ get_or words 0 name → shown ≡ name → next_option settings shown ≡ Some option → is_flag option ≡ false
+    → 1 ≤ length (behind words) → said ≡ get_or (behind words) 0 said → told ≡ said → with_said settings option told ≡ None → place ≡ place_of settings
+    → Err (place + 1) ≡ read_settings device words settings
+settings_wrong device words settings name shown said told option place some first shows chosen says more second tells stops at =
+    let rest : List Word = behind (behind words) in
+    let split : words ≡ name ∷ said ∷ rest = first_word words name some first ∙ ap (λ (l : List Word). name ∷ l) (first_word (behind words) said more second) in
+    let option_is : next_option settings name ≡ Some option = ap (next_option settings) (sym shows) ∙ chosen in
+    let none : with_said settings option said ≡ None = ap (with_said settings option) (sym tells) ∙ stops in
+    let flagged : Result Form ℕ = read_settings device (said ∷ rest) (with_trace settings) in
+    let read : read_settings device words settings ≡ Err (place_of settings + 1) =
+    ap (λ (l : List Word). read_settings device l settings) split
+    ∙ ap (λ (o : Option RunOption). by_option settings o (λ given. with_said settings given said) (read_scripts device settings (name ∷ said ∷ rest)) flagged (read_settings device rest)) option_is
+    ∙ ap (λ b. cond b flagged (by_said settings (with_said settings option said) (read_settings device rest))) says
+    ∙ ap (λ (n : Option Settings). by_said settings n (read_settings device rest)) none in
+    ap (λ n. Err (n + 1)) at ∙ sym read
+
+no_option : (device : Word) (rest : List Word) (settings : Settings) (name : Word) → next_option settings name ≡ None
+    → read_settings device (name ∷ rest) settings ≡ read_scripts device settings (name ∷ rest)
+no_option device [] settings name none =
+    ap (λ (o : Option RunOption). by_option settings o (λ given. None) (read_scripts device settings (name ∷ []))
+    (Err (place_of (with_trace settings))) (λ next. Err (place_of next))) none
+no_option device (said ∷ rest) settings name none =
+    let flagged : Result Form ℕ = read_settings device (said ∷ rest) (with_trace settings) in
+    ap (λ (o : Option RunOption). by_option settings o (λ given. with_said settings given said) (read_scripts device settings (name ∷ said ∷ rest)) flagged (read_settings device rest)) none
+
+-- the scripts begin
+pub settings_scripts : (device : Word) (words : List Word) (settings : Settings) (name shown : Word)
+    → 1 ≤ length words → name ≡ get_or words 0 name → shown ≡ name → next_option settings shown ≡ None
+    → read_scripts device settings words ≡ read_settings device words settings
+settings_scripts device words settings name shown some first shows none =
+    let split : words ≡ name ∷ behind words = first_word words name some first in
+    ap (read_scripts device settings) split
+    ∙ sym (no_option device (behind words) settings name (ap (next_option settings) (sym shows) ∙ none))
+    ∙ sym (ap (λ (l : List Word). read_settings device l settings) split)
+
+pub generate_first : (words : List Word) (item shown : Word) (number : ℕ) → 1 ≤ length words → item ≡ get_or words 0 item → shown ≡ item
+    → script_number shown ≡ Some number → read_workers number (behind words) ≡ read_generate words
+generate_first words item shown number some is shows reads =
+    ap (λ (o : Option ℕ). by_script_number o (behind words)) (sym reads ∙ ap script_number shows)
+    ∙ ap read_generate (sym (first_word words item some is))
+
+pub words_first : (words : List Word) (item shown : Word) → 1 ≤ length words → item ≡ get_or words 0 item → shown ≡ item
+    → read_verb shown (behind words) ≡ read_words words
+words_first words item shown some is shows =
+    ap (λ (v : Word). read_verb v (behind words)) shows ∙ ap read_words (sym (first_word words item some is))

@@ -1,14 +1,14 @@
 -- Steps of loops over blobs and their chunks.
-use Rattle.std.proofs.Common.{◌≡◌, ◌∙◌, ℕ, zero, suc, ◌+◌, ◌<◌, ◌≤◌, min, List, [], ◌∷◌, ◌++◌, length, map, get_or, take, refl, sym, ap, subst, arith, add-one, append_assoc, append-nil}
+use Rattle.std.proofs.Common.{◌≡◌, ◌∙◌, ℕ, zero, suc, ◌+◌, ◌<◌, ◌≤◌, min, List, [], ◌∷◌, ◌++◌, length, map, get_or, set, take, drop, refl, sym, ap, subst, arith, add-one, append_assoc, append-nil}
 use Rattle.std.specs.List.{flat_map, AllByRecursion}
-use Rattle.std.proofs.lemmas.List.{length-append, map-append, take_more}
+use Rattle.std.proofs.lemmas.List.{drop_more, drop-set-lt, length-append, map-append, take_more, take_more_set}
 use Rattle.std.proofs.lemmas.List.Concat.{flat_map-append}
 use Rattle.arrayvec.specs.ArrayVec.{ArrayVec}
 use Rattle.array_rows.specs.Boxes.{by_pairs}
 use Rattle.chunk_map.specs.declared.directory.DirEntry.{DirEntry}
 use Rattle.page_file.specs.declared.commits.placed.Placed.{Placed}
 use Rattle.page_file.specs.Commits.{pages_of}
-use Rattle.commit_pages.specs.Versions.{entry_of}
+use Rattle.commit_pages.specs.Versions.{blob_count, placed, all_placed, entry_of}
 
 -- ---- the pages of one more blob
 
@@ -88,3 +88,18 @@ all_snoc P (y ∷ xs) x all one = (all.0, all_snoc P xs x all.1 one)
 
 pub all_more : {A : Type 0} (P : A → Type 0) (xs next : List A) (x : A) → AllByRecursion P xs → P x → next ≡ xs ++ x ∷ [] → AllByRecursion P next
 all_more P xs next x all one e = subst (AllByRecursion P) (sym e) (all_snoc P xs x all one)
+
+-- ---- one more blob in its pages
+
+pub settled_more : (all blobs next : List Placed) (i : ℕ) (d own : Placed) (pages rest : List ℕ) → i < length blobs → next ≡ set blobs i own
+    → own ≡ placed pages (get_or blobs i d).bytes → rest ≡ drop (blob_count (get_or blobs i d).bytes) pages → take i blobs ++ all_placed pages (drop i blobs) ≡ all
+    → take (i + 1) next ++ all_placed rest (drop (i + 1) next) ≡ all
+settled_more all blobs next i d own pages rest low put made behind so_far =
+    let one = get_or blobs i d in
+    ap (λ (l : List Placed). take (i + 1) l ++ all_placed rest (drop (i + 1) l)) put
+    ∙ ap (λ (l : List Placed). l ++ all_placed rest (drop (i + 1) (set blobs i own))) (take_more_set blobs i own low)
+    ∙ append_assoc (take i blobs) (own ∷ []) (all_placed rest (drop (i + 1) (set blobs i own)))
+    ∙ ap (λ (l : List Placed). take i blobs ++ own ∷ all_placed rest l) (drop-set-lt (i + 1) blobs i own (omega arith))
+    ∙ ap (λ (o : Placed). take i blobs ++ o ∷ all_placed rest (drop (i + 1) blobs)) made
+    ∙ ap (λ (p : List ℕ). take i blobs ++ placed pages one.bytes ∷ all_placed p (drop (i + 1) blobs)) behind
+    ∙ sym (ap (λ (l : List Placed). take i blobs ++ all_placed pages l) (drop_more blobs i d low)) ∙ so_far

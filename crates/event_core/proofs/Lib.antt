@@ -2,6 +2,7 @@ pub use Rattle.plan_changes.proofs.DatabaseLaws
 pub use Rattle.plan_changes.proofs.NamesOf
 pub use Rattle.plan_changes.proofs.StoredLaws
 pub mod Knowing
+pub mod Loops
 pub mod Marking
 pub mod Reaping
 pub mod Runs

@@ -1,6 +1,7 @@
 pub mod ArraysMadeLaws
 pub mod CutLaws
 pub mod FreeLaws
+pub mod FrontLaws
 pub mod MovedLaws
 pub mod OperatorsMadeLaws
 pub mod PartLaws
@@ -9,3 +10,4 @@ pub mod PieceLaws
 pub mod ReachLaws
 pub mod SliceLaws
 pub mod SpreadLaws
+pub mod TurnLaws

@@ -1,10 +1,11 @@
 -- The chunks of a `build` are its array.
-use Rattle.std.proofs.Common.{◌≡◌, ℕ, suc, ◌<◌, ℤ, Bool, true, false, List, [], ◌∷◌, ◌++◌, map, length, get_or, Result, Ok, Err, refl, sym, ap, ◌∙◌, subst, arith}
+use Rattle.std.proofs.Common.{◌≡◌, ℕ, suc, ◌+◌, ◌<◌, ℤ, Bool, true, false, List, [], ◌∷◌, ◌++◌, map, take, length, get_or, Result, Ok, Err, refl, sym, ap, ◌∙◌, subst, arith}
 use Rattle.std.specs.Prelude.{◌&&◌, ◌||◌, int_le, IfOk}
 use Rattle.std.specs.Int.{int_min, int_max}
 use Rattle.std.specs.List.{AllByRecursion}
 use Rattle.std.specs.Ordering.{is_eq}
 use Rattle.std.proofs.lemmas.Int.{ints, clamps}
+use Rattle.std.proofs.lemmas.List.{map-append, map_more}
 use Rattle.cell_values.specs.declared.schema.Bounds.{Bounds}
 use Rattle.array_rows.specs.Arrays.{AreRowsOf}
 use Rattle.array_geom.specs.declared.grid.Grid.{Grid}
@@ -34,7 +35,7 @@ use Rattle.logical_plan.specs.Meaning.{built_rows}
 use Rattle.exec_cellwise.specs.Inner.Rows.{built_row}
 use Rattle.exec_cellwise.specs.Inner.Walks.{Holds, TakesRows, coordinates_between, numbers_to, numbers_under, rows_between}
 use Rattle.exec_cellwise.proofs.CutLaws.{cut_box}
-use Rattle.exec_cellwise.proofs.RowLaws.{between_is, built_between, rows_filter}
+use Rattle.exec_cellwise.proofs.RowLaws.{all_push, between_is, built_between, rows_filter}
 use Rattle.exec_cellwise.proofs.NumberLists.{all_under, numbers_rise}
 use Rattle.exec_cellwise.proofs.CoreCells.{all_have_cores, core_has_cell, core_of_cell, last_numbers, length_map, listed_core}
 
@@ -201,3 +202,15 @@ pub chunks_made : (schema : Schema) (e : Expr) (margins : List ℕ) (listed show
 chunks_made schema e margins listed shown (Err fault) rows is shows same parts = tt
 chunks_made schema e margins listed shown (Ok chunks) rows is shows same parts =
     are_chunks schema.dimensions margins (built_rows schema e) listed chunks (are_cores schema e listed rows is) (same ∙ ap numbers_in shows) parts
+
+-- ---- one more chunk
+
+pub number_made : (listed : List (ArrayVec ℕ)) (i : ℕ) (number : ArrayVec ℕ) (chunk : Chunk) (old new : List Chunk) → i < length listed
+    → number ≡ get_or listed i number → chunk.at ≡ number → numbers old ≡ numbers_in (take i listed) → new ≡ old ++ chunk ∷ []
+    → numbers new ≡ numbers_in (take (i + 1) listed)
+number_made listed i number chunk old new less item at so_far pushed =
+    ap numbers pushed ∙ map-append (λ (z : Chunk). z.at.items) old (chunk ∷ []) ∙ (λ j. so_far j ++ (at j).items ∷ [])
+    ∙ ap (λ (z : ArrayVec ℕ). numbers_in (take i listed) ++ z.items ∷ []) item ∙ sym (map_more (λ (z : ArrayVec ℕ). z.items) listed i number less)
+
+pub part_made : (P : Chunk → Type 0) (old new : List Chunk) (chunk : Chunk) → AllByRecursion P old → P chunk → new ≡ old ++ chunk ∷ [] → AllByRecursion P new
+part_made P old new chunk all one pushed = subst (AllByRecursion P) (sym pushed) (all_push P old chunk all one)

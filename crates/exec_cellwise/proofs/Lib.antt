@@ -1,3 +1,4 @@
+pub mod AppliedLaws
 pub mod BuiltRows
 pub mod ChunkLaws
 pub mod CoreCells

@@ -1,6 +1,6 @@
 -- Cells that are changed at their positions, whatever their coordinates.
-use Rattle.std.proofs.Common.{◌≡◌, ℕ, ◌<◌, ℤ, List, [], ◌∷◌, map, length, Option, Some, refl, sym, ap, subst, ◌∙◌}
-use Rattle.std.proofs.lemmas.List.{length-map}
+use Rattle.std.proofs.Common.{◌≡◌, ℕ, ◌+◌, ◌<◌, ℤ, List, [], ◌∷◌, ◌++◌, map, length, take, get_or, Option, Some, refl, sym, ap, subst, ◌∙◌}
+use Rattle.std.proofs.lemmas.List.{length-map, map_more}
 use Rattle.std.specs.List.{AllByRecursion}
 use Rattle.arrayvec.specs.ArrayVec.{ArrayVec}
 use Rattle.cell_values.specs.declared.datum.Cell.{Cell}
@@ -17,6 +17,12 @@ use Rattle.logical_plan.specs.CellOps.{project_cell, project_rows}
 use Rattle.array_parts.specs.Made.{IsPlaced, IsMadeBy}
 use Rattle.array_parts.proofs.Steps.{part_made}
 use Rattle.exec_cellwise.specs.Picked.{picked}
+
+-- a loop's step: one more item, which is made of the next one
+pub one_made : {A B : Type 0} (f : A → B) (xs : List A) (i : ℕ) (d : A) (z : B) (old new : List B) → i < length xs → old ≡ map f (take i xs)
+    → new ≡ old ++ z ∷ [] → z ≡ f (get_or xs i d) → new ≡ map f (take (i + 1) xs)
+one_made {A} {B} f xs i d z old new less is pushed same =
+    pushed ∙ ap (λ (l : List B). l ++ z ∷ []) is ∙ ap (λ (y : B). map f (take i xs) ++ y ∷ []) same ∙ sym (map_more f xs i d less)
 
 stays : (places : List ℕ) (c : Coordinate) (x : Cell) → project_cell places c x ≡ Some (picked places x)
 stays places c (Full vs) = refl

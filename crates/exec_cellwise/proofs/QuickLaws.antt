@@ -1,14 +1,20 @@
 -- What is found of an expression as a number is its value.
-use Rattle.std.proofs.Common.{◌≡◌, ℤ, List, [], ◌∷◌, Option, Some, None, refl, sym, ap, ◌∙◌, subst}
+use Rattle.std.proofs.Common.{◌≡◌, ℤ, List, [], ◌∷◌, Option, Some, None, refl, sym, ap, ◌∙◌, subst, w64, FitsSigned, arith}
+use Rattle.std.specs.Option.{SomeIff}
 use Rattle.std.specs.Prelude.{slice_get, option_map, unwrap_or}
 use Rattle.cell_values.specs.declared.datum.Datum.{Datum}
 use Rattle.cell_values.specs.declared.datum.Datum.TheVariants.{Null, Missing, Int, Text, Truth, Bad}
+use Rattle.cell_values.specs.Table.{exact}
 use Rattle.cell_values.specs.declared.schema.Attribute.{Attribute}
 use Rattle.array_rows.specs.Rows.{Coordinate}
 use Rattle.expr_nulls.specs.Expr.{Expr, literal, attribute_value, dimension_value, minus, denial, calculation, relation, conjunction, disjunction, conditional, null_test, byte_length, decimal_text, coded_null, null_code}
 use Rattle.expr_nulls.specs.ExprValue.{value_of, calculated}
 use Rattle.logical_plan.specs.CellOps.{fit_values}
 use Rattle.exec_cellwise.specs.Inner.Quickly.{IsNumber, number_in, number_of, on_numbers}
+
+-- a number that is exact
+pub exactly : (o : Option ℤ) (x : ℤ) → SomeIff o (FitsSigned w64 x) x → o ≡ number_in (exact x)
+exactly o x found = grind arith
 
 value_found : (v : Datum) → IsNumber (number_in v) v
 value_found (Int n) = refl

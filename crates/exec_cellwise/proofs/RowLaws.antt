@@ -70,7 +70,7 @@ rows_filter attributes e test (c ∷ cs) =
 
 -- ---- cells of a chunk
 
-all_push : {X : Type 0} (P : X → Type 0) (xs : List X) (x : X) → AllByRecursion P xs → P x → AllByRecursion P (xs ++ x ∷ [])
+pub all_push : {X : Type 0} (P : X → Type 0) (xs : List X) (x : X) → AllByRecursion P xs → P x → AllByRecursion P (xs ++ x ∷ [])
 all_push P [] x a p = (p, tt)
 all_push P (y ∷ ys) x a p = (a.0, all_push P ys x a.1 p)
 
@@ -129,6 +129,25 @@ along_more f lo n = grown f lo [] n (flat_map f (count_from lo n)) (flat_map f (
 pub first_again : (xs : List ℤ) (x : ℤ) → 1 ≤ length xs → x ≡ slice_index_or xs 0 (pos 0) → x ∷ take (length xs - 1) (drop 1 xs) ≡ xs
 first_again [] x h is = absurd (omega (arith, h))
 first_again (y ∷ xs) x h is = ap (λ z. z ∷ take (length (y ∷ xs) - 1) xs) is ∙ ap (λ l. y ∷ l) (take_all (length (y ∷ xs) - 1) xs (omega arith))
+
+pub between_again : (lo hi : List ℤ) → 1 ≤ length lo → 1 ≤ length hi → (c : Coordinate)
+    → is_between (slice_index_or lo 0 (pos 0) ∷ take (length lo - 1) (drop 1 lo)) (slice_index_or hi 0 (pos 0) ∷ take (length hi - 1) (drop 1 hi)) c ≡ true
+    → is_between lo hi c ≡ true
+between_again lo hi a b c is = sym (λ i. is_between (first_again lo (slice_index_or lo 0 (pos 0)) a refl i) (first_again hi (slice_index_or hi 0 (pos 0)) b refl i) c) ∙ is
+
+-- where one corner has fewer numbers than the other there is no row
+pub none_below : (row : Coordinate → Row) (at : Coordinate) (lo hi : List ℤ) → length lo < 1 → 1 ≤ length hi → rows_between row at lo hi ≡ []
+none_below row at [] [] a b = absurd (omega (arith, b))
+none_below row at [] (h ∷ hi) a b = refl
+none_below row at (l ∷ lo) hi a b = absurd (omega (arith, a))
+
+pub none_above : (row : Coordinate → Row) (at : Coordinate) (lo hi : List ℤ) → 1 ≤ length lo → length hi < 1 → rows_between row at lo hi ≡ []
+none_above row at [] hi a b = absurd (omega (arith, a))
+none_above row at (l ∷ lo) [] a b = refl
+none_above row at (l ∷ lo) (h ∷ hi) a b = absurd (omega (arith, b))
+
+pub takes_nothing : (low : List ℤ) (lengths : List ℕ) (rows : List Row) (chunk : Chunk) → rows ≡ [] → TakesRows low lengths rows chunk chunk
+takes_nothing low lengths rows chunk none = subst (λ (z : List Row). TakesRows low lengths z chunk chunk) (sym none) (takes_none low lengths chunk)
 
 pub inside_here : (low : List ℤ) (lengths : List ℕ) (at : Coordinate) (lo hi : List ℤ) → length lo < 1 → length hi < 1 → ((c : Coordinate) → is_between lo hi c ≡ true → is_in_grid low lengths (at ++ c) ≡ true) → is_in_grid low lengths at ≡ true
 inside_here low lengths at [] [] a b f = ap (is_in_grid low lengths) (sym (append-nil at)) ∙ f [] refl

@@ -1,5 +1,5 @@
 -- Coordinates that differ in their last number alone.
-use Rattle.std.proofs.Common.{◌≡◌, ℕ, ◌+◌, ◌*◌, ◌<◌, ℤ, pos, ◌+ℤ◌, ◌-ℤ◌, ◌≤ℤ◌, Bool, true, false, cond, List, [], ◌∷◌, ◌++◌, length, take, refl, ap, ◌∙◌, arith}
+use Rattle.std.proofs.Common.{◌≡◌, ℕ, ◌+◌, ◌*◌, ◌<◌, ◌≤◌, ℤ, pos, ◌+ℤ◌, ◌-ℤ◌, ◌≤ℤ◌, Bool, true, false, cond, List, [], ◌∷◌, ◌++◌, length, take, refl, ap, ◌∙◌, append_assoc, length-append, arith}
 use Rattle.std.specs.Prelude.{int_le, unsigned_abs}
 use Rattle.std.proofs.lemmas.Int.{ints}
 use Rattle.cell_values.specs.declared.datum.Row.{Row}
@@ -44,6 +44,17 @@ low_in l h n g = let f = up_to l h n g in omega (arith, ints)
 -- a number of the run lies in the grid
 pub inside_run : (low : List ℤ) (lengths : List ℕ) (at : Coordinate) (l h x : ℤ) → l ≤ℤ x → x ≤ℤ h → ((c : Coordinate) → is_between (l ∷ []) (h ∷ []) c ≡ true → is_in_grid low lengths (at ++ c) ≡ true) → is_in_grid low lengths (at ++ x ∷ []) ≡ true
 inside_run low lengths at l h x a b f = f (x ∷ []) (and_both _ _ (and_both _ _ (le_test l x a) (le_test x h b)) refl)
+
+-- so do those behind a number along a first dimension
+pub inside_along : (low : List ℤ) (lengths : List ℕ) (at next : Coordinate) (l h x : ℤ) (lo hi : List ℤ) → l ≤ℤ x → x ≤ℤ h → next ≡ at ++ x ∷ []
+    → ((c : Coordinate) → is_between (l ∷ lo) (h ∷ hi) c ≡ true → is_in_grid low lengths (at ++ c) ≡ true)
+    → (c : Coordinate) → is_between lo hi c ≡ true → is_in_grid low lengths (next ++ c) ≡ true
+inside_along low lengths at next l h x lo hi a b is f c here =
+    ap (λ (z : Coordinate). is_in_grid low lengths (z ++ c)) is ∙ ap (is_in_grid low lengths) (append_assoc at (x ∷ []) c)
+    ∙ f (x ∷ c) (and_both _ _ (and_both _ _ (le_test l x a) (le_test x h b)) here)
+
+pub room_along : {A : Type 0} (at next : Coordinate) (x : ℤ) (lo : List A) → next ≡ at ++ x ∷ [] → length at + length lo < 6 → length next + length lo ≤ 6
+room_along at next x lo is room = omega (arith, room, ap length is ∙ length-append at (x ∷ []))
 
 -- ---- the last dimension
 

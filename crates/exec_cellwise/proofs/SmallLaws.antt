@@ -1,14 +1,19 @@
 -- What is found of an expression is its value.
-use Rattle.std.proofs.Common.{◌≡◌, ℕ, ℤ, Bool, true, false, List, ◌∷◌, [], Option, Some, None, refl, sym, ap, ◌∙◌, subst, OnOk, Result}
+use Rattle.std.proofs.Common.{◌≡◌, ℕ, ℤ, Bool, true, false, List, ◌∷◌, [], Option, Some, None, refl, sym, ap, ◌∙◌, subst, OnOk, Result, w64, FitsSigned, arith}
+use Rattle.std.specs.Option.{MatchOption, SomeIff}
 use Rattle.cell_values.specs.declared.datum.Datum.{Datum}
 use Rattle.cell_values.specs.declared.datum.Datum.TheVariants.{Null, Missing, Int, Text, Truth as TruthValue, Bad}
-use Rattle.cell_values.specs.Table.{comparison, both_of, either_of}
+use Rattle.cell_values.specs.Table.{comparison, both_of, either_of, exact}
 use Rattle.expr_nulls.specs.Expr.{Expr, literal, attribute_value, dimension_value, minus, denial, calculation, relation, conjunction, disjunction, conditional, null_test, byte_length, decimal_text, coded_null, null_code}
 use Rattle.expr_nulls.specs.ExprValue.{value_of, calculated}
 use Rattle.array_rows.specs.declared.columns.small.Small.{Small}
 use Rattle.array_rows.specs.declared.columns.small.Small.TheVariants.{Number, Truth, Other}
 use Rattle.array_rows.specs.Seen.{seen}
 use Rattle.exec_cellwise.specs.Inner.Smalls.{on_smalls, small_both, small_either, small_of, IsSeen}
+
+-- a number that is exact
+pub exactly_seen : (o : Option ℤ) (x : ℤ) (r : Small) → SomeIff o (FitsSigned w64 x) x → MatchOption o (r ≡ Other) (λ (n : ℤ). r ≡ Number n) → r ≡ seen (exact x)
+exactly_seen o x r found told = grind arith
 
 seen_is : (v : Datum) → IsSeen (seen v) v
 seen_is (Int n) = refl

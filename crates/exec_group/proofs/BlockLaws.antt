@@ -3,6 +3,7 @@ use Rattle.std.proofs.Common.{◌≡◌, ℕ, zero, suc, ◌/◌, ◌≤◌, ℤ
 use Rattle.std.specs.Int.{w64, saturate_signed}
 use Rattle.std.specs.List.{AllByRecursion}
 use Rattle.std.proofs.Math.Nat.{div-mul-le_self}
+use Rattle.std.proofs.lemmas.Bool.{false≢true}
 use Rattle.std.proofs.lemmas.Int.{ints}
 use Rattle.std.proofs.lemmas.Nat.{le-div}
 use Rattle.cell_values.specs.declared.datum.Row.{Row}
@@ -46,7 +47,7 @@ block_within d size x near l h =
 block_inside : (dims : List Dimension) (sizes : List ℕ) (c : Coordinate) → AreNear dims → is_between (map (λ d. d.lo) dims) (map (λ d. d.hi) dims) c ≡ true → is_inside (bounds_of (by_pairs in_blocks dims sizes)) (block_at dims sizes c) ≡ true
 block_inside [] sizes c near b = refl
 block_inside (d ∷ dims) [] c near b = refl
-block_inside (d ∷ dims) (size ∷ sizes) [] near b = absurd cc
+block_inside (d ∷ dims) (size ∷ sizes) [] near b = absurd (false≢true b)
 block_inside (d ∷ dims) (size ∷ sizes) (x ∷ c) near b =
     let parts = and_parts (int_le d.lo x && int_le x d.hi) (is_between (map (λ d. d.lo) dims) (map (λ d. d.hi) dims) c) b in
     let first = and_parts (int_le d.lo x) (int_le x d.hi) parts.0 in

@@ -23,6 +23,7 @@ use Rattle.area_cells.proofs.NumberLaws.{number_order_total}
 use Rattle.area_cells.proofs.MergeLaws.{put_all-none, IsRising-core_rows}
 use Rattle.group_rows.specs.Inner.Keys.{core_of, aggregate_sets, block_at, regrid_sets}
 use Rattle.std.specs.Prelude.{IfOk}
+use Rattle.std.proofs.lemmas.Bool.{false≢true}
 use Rattle.std.proofs.lemmas.Result.{IfOk-weaker}
 use Rattle.cell_values.specs.declared.memory.Memory.{Memory}
 use Rattle.group_rows.specs.declared.rows.groups.Groups.{Groups}
@@ -175,7 +176,7 @@ pub whole_groups : (gs : List Aggregate) (places : List ℕ) (schema : Schema) (
     → NumbersRise (numbers chunks) → AllByRecursion (λ k. length k ≡ length schema.dimensions) (numbers chunks)
     → (AreAllApart (sets_of places schema.dimensions margins chunks) → IfOk answer (λ all. AreGroupsOf gs (all_sets (sets_of places schema.dimensions margins chunks)) all.groups))
     → IfOk answer (λ all. AreGroupsOf gs (aggregate_sets places (core_rows schema.dimensions margins chunks)) all.groups)
-whole_groups gs [] schema margins [] answer h some rise sized f = cc
+whole_groups gs [] schema margins [] answer h some rise sized f = absurd (false≢true some)
 whole_groups gs [] schema margins (chunk ∷ chunks) answer h some rise sized f =
     IfOk-weaker answer _ _
     (λ all own. same_sets gs (all_sets (sets_of [] schema.dimensions margins (chunk ∷ chunks))) (aggregate_sets [] (core_rows schema.dimensions margins (chunk ∷ chunks))) all.groups

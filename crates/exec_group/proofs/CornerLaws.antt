@@ -2,6 +2,7 @@
 use Rattle.std.proofs.Common.{◌≡◌, ℕ, ◌+◌, ◌-◌, ◌*◌, ◌/◌, ◌%◌, ◌<◌, ◌≤◌, ℤ, pos, ◌+ℤ◌, ◌≤ℤ◌, Bool, true, false, ◌&&◌, List, [], ◌∷◌, length, map, replicate, refl, sym, ap, ◌∙◌, arith}
 use Rattle.std.specs.Prelude.{int_le, IfOk, Result, Ok, Err}
 use Rattle.std.specs.List.{AllByRecursion}
+use Rattle.std.proofs.lemmas.Bool.{false≢true}
 use Rattle.std.proofs.lemmas.Int.{ints}
 use Rattle.cell_values.specs.declared.memory.Memory.{Memory}
 use Rattle.array_rows.specs.Boxes.{is_between}
@@ -65,9 +66,9 @@ pub has_all : (low : List ℤ) (lengths : List ℕ) (lo hi : List ℤ) (last p :
 has_all [] [] lo hi last p a e w f t k = t
 has_all [] (n ∷ ns) lo hi last p a e w f t k = absurd (omega (arith, e))
 has_all (l ∷ low) [] lo hi last p a e w f t k = absurd (omega (arith, e))
-has_all (l ∷ low) (n ∷ ns) [] [] last p a e w f t k = absurd cc
-has_all (l ∷ low) (n ∷ ns) [] (y ∷ hi) last p a e w f t k = absurd cc
-has_all (l ∷ low) (n ∷ ns) (x ∷ lo) [] last p a e w f t k = absurd cc
+has_all (l ∷ low) (n ∷ ns) [] [] last p a e w f t k = absurd (false≢true f)
+has_all (l ∷ low) (n ∷ ns) [] (y ∷ hi) last p a e w f t k = absurd (false≢true f)
+has_all (l ∷ low) (n ∷ ns) (x ∷ lo) [] last p a e w f t k = absurd (false≢true f)
 has_all (l ∷ low) (n ∷ ns) (x ∷ lo) (y ∷ hi) last p a e w f t k =
     let v = volume ns in
     let s = some ns a.1 in

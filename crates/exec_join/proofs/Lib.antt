@@ -1,5 +1,6 @@
 pub mod ArraysCrossLaws
 pub mod CrossPieceLaws
+pub mod FrontLaws
 pub mod JoinLaws
 pub mod MadeLaws
 pub mod PieceLaws

@@ -1,6 +1,6 @@
 -- The groups of rows, row by row.
 use Rattle.std.proofs.Common.{◌≡◌, ℕ, ℤ, zero, suc, pos, negsuc, ◌+◌, ◌-◌, ◌/◌, ◌^◌, ◌<◌, ◌≤◌, ◌≤ℤ◌, ◌+ℤ◌, ◌-ℤ◌, unsigned_abs, min, List, [], ◌∷◌, ◌++◌, map, length, get_or, take, drop, append_assoc, length-append, true, ◌&&◌, sym, ap, ◌∙◌, subst, arith}
-use Rattle.std.proofs.lemmas.List.{take_more, take_rest, map-append, length-map}
+use Rattle.std.proofs.lemmas.List.{append-nil, take_all, take_more, take_rest, map-append, length-map, length-take-le}
 use Rattle.std.specs.Prelude.{slice_index_or, int_le}
 use Rattle.std.proofs.lemmas.Int.{ints}
 use Rattle.std.specs.Int.{w64, saturate_signed}
@@ -13,7 +13,8 @@ use Rattle.array_geom.specs.Inner.Ranges.{IsNear, AreNear}
 use Rattle.array_geom.proofs.TestLaws.{and_parts, le_from_test}
 use Rattle.logical_plan.specs.Groups.{block}
 use Rattle.group_rows.specs.Inner.Keys.{block_at}
-use Rattle.std.proofs.Common.{Result}
+use Rattle.std.specs.Option.{SomeIff}
+use Rattle.std.proofs.Common.{Option, Result, unwrap_or}
 use Rattle.std.specs.Prelude.{IfOk}
 use Rattle.cell_values.specs.declared.memory.Memory.{Memory}
 use Rattle.logical_plan.specs.declared.parts.Aggregate.{Aggregate}
@@ -28,6 +29,15 @@ in_limits (negsuc n) low high = let few : n ≤ 2 ^ 63 - 1 = omega (arith, ints)
 no_more : (n size : ℕ) → n / size ≤ n
 no_more n zero = grind arith
 no_more n (suc size) = grind arith
+
+quotient : (o : Option ℕ) (a size : ℕ) → SomeIff o (0 < size) (a / size) → unwrap_or o 0 ≡ a / size
+quotient o a size found = grind arith
+
+-- a block by the calls that compute it
+pub clamped : (low number : ℤ) (size a u : ℕ) (o : Option ℕ) (r : ℤ) → a ≡ unsigned_abs (number -ℤ low) → SomeIff o (0 < size) (a / size)
+    → u ≡ unwrap_or o 0 → r ≡ saturate_signed w64 (low +ℤ pos u) → r ≡ saturate_signed w64 (block low size number)
+clamped low number size a u o r is found taken made =
+    made ∙ ap (λ (n : ℕ). saturate_signed w64 (low +ℤ pos n)) (taken ∙ quotient o a size found ∙ ap (λ (z : ℕ). z / size) is)
 
 -- the block of a number of a dimension has 64 bits
 pub exact_block : (d : Dimension) (size : ℕ) (x : ℤ) → IsNear d → d.lo ≤ℤ x → x ≤ℤ d.hi → saturate_signed w64 (block d.lo size x) ≡ block d.lo size x
@@ -47,6 +57,14 @@ next_key group rows i row keys new key l e k own n =
     ∙ sym (map-append (λ (z : Row). group z.at.items) (take i rows) (row ∷ []))
     ∙ ap (λ (z : Row). map (λ (r : Row). group r.at.items) (take i rows ++ z ∷ [])) e
     ∙ ap (map (λ (z : Row). group z.at.items)) (sym (take_more rows i row l))
+
+-- the numbers of a key so far leave room for the next
+pub room_for : {A B : Type 0} (f : A → B) (xs : List A) (i : ℕ) (out : List B) → out ≡ map f (take i xs) → i < length xs → length xs ≤ 6 → length out < 6
+room_for f xs i out is less few = omega (arith, less, few, ap length is ∙ length-map (take i xs) f ∙ length-take-le i xs (omega (arith, less)))
+
+pub all_keys : (group : Coordinate → Coordinate) (items rows : List Row) (keys : List (ArrayVec ℤ)) (i : ℕ) → items ≡ rows → length items ≤ i
+    → AreKeys group keys (take i items) → AreKeys group keys rows
+all_keys group items rows keys i is over are = subst (AreKeys group keys) (take_all i items over ∙ is) are
 
 -- a key for each row
 pub each_key : (group : Coordinate → Coordinate) (keys : List (ArrayVec ℤ)) (rows : List Row) → AreKeys group keys rows → length keys ≡ length rows
@@ -71,6 +89,10 @@ next_block (first ∷ dims) (size ∷ sizes) (x ∷ c) out out' new d b k l m e 
     ∙ (λ i. g i ++ block_at (take_rest (first ∷ dims) 1 i) (take_rest (size ∷ sizes) 1 i) (take_rest (x ∷ c) 1 i))
     ∙ append_assoc out (b ∷ []) (block_at dims sizes c)
     ∙ ap (λ (z : ℤ). out ++ z ∷ block_at dims sizes c) (f ∙ ap (λ (z : Dimension). block z.lo size x) e)
+
+pub no_blocks : (dims : List Dimension) (sizes : List ℕ) (c out : List ℤ) → length dims < 1 → out ≡ out ++ block_at dims sizes c
+no_blocks [] sizes c out none = sym (append-nil out)
+no_blocks (d ∷ dims) sizes c out none = absurd (omega (arith, none))
 
 -- what is known of a dimension and a number from the front, and behind them
 pub record IsFront (d : Dimension) (dims : List Dimension) (c : List ℤ) : Type 0 where

@@ -139,6 +139,10 @@ pub on_ok : {X E : Type 0} {P Q : Type 0} (r : Result X E) → OnOk r P → (P �
 on_ok (Ok x) p f = f p
 on_ok (Err e) p f = p
 
+pub ok_now : {X E : Type 0} {P : Type 0} (r : Result X E) → P → OnOk r P
+ok_now (Ok x) p = p
+ok_now (Err e) p = tt
+
 pub if_ok : {X E : Type 0} {P Q : X → Type 0} (r : Result X E) → IfOk r P → ((x : X) → P x → Q x) → IfOk r Q
 if_ok (Ok x) p f = f x p
 if_ok (Err e) p f = p

@@ -1,7 +1,7 @@
 -- Groups of the cells at places of a grid.
 use Rattle.std.proofs.Common.{◌≡◌, ℕ, zero, suc, ◌+◌, ◌<◌, ◌≤◌, ℤ, pos, Bool, true, false, cond, List, [], ◌∷◌, ◌++◌, length, get_or, take, drop, None, refl, sym, ap, ◌∙◌, subst, arith}
 use Rattle.std.specs.Prelude.{IfOk, Result, Ok, Err}
-use Rattle.std.proofs.lemmas.List.{drop-map, length-map, take-append-drop, take-map, take_more}
+use Rattle.std.proofs.lemmas.List.{drop-map, length-drop, length-map, length-take-le, take-append-drop, take-map, take_more}
 use Rattle.std.proofs.lemmas.List.Elements.{filter-append}
 use Rattle.std.specs.BTreeMap.{BTreeMap}
 use Rattle.std.specs.List.{AllByRecursion}
@@ -35,6 +35,9 @@ use Rattle.group_rows.proofs.TakenLaws.{StandsAlso, one_also, run_rises, run_set
 
 -- ---- lists
 
+pub run_long : (numbers run : List ℤ) (from n : ℕ) → run ≡ take n (drop from numbers) → from + n ≤ length numbers → length run ≡ n
+run_long numbers run from n is enough = ap length is ∙ length-take-le n (drop from numbers) (omega (arith, length-drop from numbers, enough))
+
 pub all_at : {A : Type 0} (P : A → Type 0) (xs : List A) (i : ℕ) (d : A) → i < length xs → AllByRecursion P xs → P (get_or xs i d)
 all_at P [] i d l h = absurd (omega (arith, l))
 all_at P (x ∷ xs) zero d l h = h.0
@@ -49,6 +52,12 @@ pub all_dropped : {A : Type 0} (P : A → Type 0) (n : ℕ) (xs : List A) → Al
 all_dropped P zero xs h = h
 all_dropped P (suc n) [] h = tt
 all_dropped P (suc n) (x ∷ xs) h = all_dropped P n xs h.1
+
+pub all_front : {A : Type 0} (P : A → Type 0) (xs : List A) (n : ℕ) (ys : List A) → ys ≡ take n xs → AllByRecursion P xs → AllByRecursion P ys
+all_front P xs n ys e a = subst (AllByRecursion P) (sym e) (all_taken P n xs a)
+
+pub all_back : {A : Type 0} (P : A → Type 0) (xs : List A) (n : ℕ) (ys : List A) → ys ≡ drop n xs → AllByRecursion P xs → AllByRecursion P ys
+all_back P xs n ys e a = subst (AllByRecursion P) (sym e) (all_dropped P n xs a)
 
 pub all_first : {A : Type 0} (P : A → Type 0) (xs : List A) (d : A) → 0 < length xs → P (get_or xs 0 d) → AllByRecursion P (take 1 xs)
 all_first P [] d l h = absurd (omega (arith, l))

@@ -1,5 +1,5 @@
 -- The states of groups, which take one run of cells after the other.
-use Rattle.std.proofs.Common.{◌≡◌, ℕ, zero, suc, ◌+◌, ◌<◌, ◌≤◌, ◌^◌, ℤ, max, Bool, true, false, cond, List, [], ◌∷◌, ◌++◌, map, length, get_or, take, drop, Option, Some, None, refl, sym, ap, ◌∙◌, subst, add-one, append_assoc, arith}
+use Rattle.std.proofs.Common.{◌≡◌, ℕ, zero, suc, ◌+◌, ◌<◌, ◌≤◌, ◌^◌, ℤ, max, Bool, true, false, cond, List, [], ◌∷◌, ◌++◌, map, length, get_or, take, drop, Option, Some, None, refl, sym, ap, ◌∙◌, subst, add-one, append_assoc, length-append, arith}
 use Rattle.std.proofs.lemmas.List.{append-nil, drop-take, take-append-drop, take-take, take_all, take_more}
 use Rattle.std.proofs.lemmas.List.Elements.{filter-append}
 use Rattle.std.specs.BTreeMap as tree
@@ -75,6 +75,12 @@ no_states (g ∷ gs) rows (s ∷ states) e h = absurd cc
 
 pub states_left_out : (gs : List Aggregate) (rows more : List Row) (states left : List Summary) → states ≡ [] → left ≡ [] → AreStatesOf gs rows states → AreStatesOf gs more left
 states_left_out gs rows more states left e f h = none_without more gs left (no_states gs rows states e h) f
+
+pub no_aggregate : (gs : List Aggregate) (rows more : List Row) (states left : List Summary) (s : Summary) → length gs < 1 → states ≡ left ++ s ∷ []
+    → AreStatesOf gs rows states → AreStatesOf gs more left
+no_aggregate (g ∷ gs) rows more states left s less e h = absurd (omega (arith, less))
+no_aggregate [] rows more [] left s less e h = absurd (omega (arith, ap length e, length-append left (s ∷ [])))
+no_aggregate [] rows more (t ∷ states) left s less e h = absurd h
 
 pub states_more : (rows more : List Row) (gs before : List Aggregate) (g : Aggregate) (states left new taken : List Summary) (s t : Summary) → gs ≡ before ++ g ∷ [] → states ≡ left ++ s ∷ [] → new ≡ taken ++ t ∷ []
     → (AreStatesOf before rows left → AreStatesOf before more taken) → (StandsFor g rows s → StandsFor g more t) → AreStatesOf gs rows states → AreStatesOf gs more new

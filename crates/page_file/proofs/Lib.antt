@@ -10,6 +10,7 @@ pub mod Fresh
 pub mod Fronts
 pub mod GoingLemmas
 pub mod Kept
+pub mod LogPlaces
 pub mod OnlyRead
 pub mod Opened
 pub mod PageReads

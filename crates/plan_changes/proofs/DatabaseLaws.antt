@@ -1,5 +1,5 @@
 -- A database stays one through a typed change without fault.
-use Rattle.std.proofs.Common.{◌≡◌, ℕ, zero, suc, ◌+◌, Bool, true, false, cond, not, ◌&&◌, ◌||◌, nat_eq, nat_lt, List, [], ◌∷◌, ◌++◌, map, Option, Some, None, Result, Ok, Err, refl, sym, ap, subst}
+use Rattle.std.proofs.Common.{◌≡◌, ℕ, zero, suc, ◌+◌, Bool, true, false, cond, not, ◌&&◌, ◌||◌, nat_eq, nat_lt, List, [], ◌∷◌, ◌++◌, map, Option, Some, None, Result, Ok, Err, refl, sym, ap, subst, ◌∙◌}
 use Rattle.std.specs.Prelude.{IfOk, IsTrue}
 use Rattle.std.specs.List.{AllByRecursion, filter, find, list_all, prefix_len}
 use Rattle.std.specs.Ordering.{nat_cmp, is_lt, ordering_reverse}
@@ -7,7 +7,8 @@ use Rattle.std.specs.Cmp.Lexicographic.{slice_cmp, bytes_decides}
 use Rattle.std.specs.Str.{bytes_eq}
 use Rattle.std.specs.declared.cmp.Ordering.{Ordering}
 use Rattle.std.specs.declared.cmp.Ordering.TheVariants.{Less, Equal, Greater}
-use Rattle.std.proofs.lemmas.Bool.{and_parts}
+use Rattle.std.proofs.lemmas.Bool.{false≢true, and_parts}
+use Rattle.std.proofs.lemmas.Option.{none-some, same_Some}
 use Rattle.std.proofs.lemmas.Cmp.{nat_list_cmp_total}
 use Rattle.expr_nulls.specs.Schemas.{IsValid, is_valid}
 use Rattle.expr_nulls.specs.Broken.{Broken}
@@ -135,8 +136,8 @@ found_schema name schema entry (a ∷ db) same rise found = by_test (is_array na
   where
     by_test : (b : Bool) → is_array name a ≡ b → cond b (Some (entry_of a)) (find (is_named name) (map entry_of db)) ≡ Some entry
         → (find (is_named name) (map entry_of db) ≡ Some entry → AllByRecursion (HasSchema name schema) db) → AllByRecursion (HasSchema name schema) (a ∷ db)
-    by_test true t f later = let e : a.schema ≡ schema = cc in (λ yes. e, none_behind name a.name schema db t rise)
-    by_test false t f later = (λ yes. absurd cc, later f)
+    by_test true t f later = let e : a.schema ≡ schema = ap (λ (x : NameEntry). x.schema) (same_Some (entry_of a) entry f) ∙ sym same in (λ yes. e, none_behind name a.name schema db t rise)
+    by_test false t f later = (λ yes. absurd (false≢true (sym t ∙ yes)), later f)
 
 none_named : (name : List ℕ) (db : Database) → find (is_named name) (map entry_of db) ≡ None → AllByRecursion (λ a. is_array name a ≡ false) db
 none_named name [] none = tt
@@ -144,7 +145,7 @@ none_named name (a ∷ db) none = by_test (is_array name a) refl none (none_name
   where
     by_test : (b : Bool) → is_array name a ≡ b → cond b (Some (entry_of a)) (find (is_named name) (map entry_of db)) ≡ None
         → (find (is_named name) (map entry_of db) ≡ None → AllByRecursion (λ (x : Stored). is_array name x ≡ false) db) → AllByRecursion (λ (x : Stored). is_array name x ≡ false) (a ∷ db)
-    by_test true t f later = absurd cc
+    by_test true t f later = absurd (none-some (entry_of a) (sym f))
     by_test false t f later = (t, later f)
 
 -- the schema that fits into what is found is that of each array of the name
@@ -152,15 +153,15 @@ fitting_schema : (name : List ℕ) (schema : Schema) (plan : Query) (db : Databa
 fitting_schema name schema plan db rise fits = by_found (find (is_named name) (map entry_of db)) refl fits
   where
     by_found : (o : Option NameEntry) → find (is_named name) (map entry_of db) ≡ o → FitsInto o schema plan → AllByRecursion (HasSchema name schema) db
-    by_found None e f = weaker (λ a. is_array name a ≡ false) (HasSchema name schema) (λ a no yes. absurd cc) db (none_named name db e)
+    by_found None e f = weaker (λ a. is_array name a ≡ false) (HasSchema name schema) (λ a no yes. absurd (false≢true (sym no ∙ yes))) db (none_named name db e)
     by_found (Some entry) e f = found_schema name schema entry db f.0 rise e
 
 found_stored : (name : List ℕ) (entry : NameEntry) (es : List NameEntry) → AllByRecursion IsStored es → find (is_named name) es ≡ Some entry → IsStored entry
-found_stored name entry [] all e = absurd cc
+found_stored name entry [] all e = absurd (none-some entry e)
 found_stored name entry (x ∷ es) all e = by_test (is_named name x) e (found_stored name entry es all.1)
   where
     by_test : (b : Bool) → cond b (Some x) (find (is_named name) es) ≡ Some entry → (find (is_named name) es ≡ Some entry → IsStored entry) → IsStored entry
-    by_test true f later = let same : x ≡ entry = cc in subst IsStored same all.0
+    by_test true f later = subst IsStored (same_Some x entry f) all.0
     by_test false f later = later f
 
 -- ---- rows that are read
@@ -216,7 +217,7 @@ fits_like (Some entry) schema plan f =
 fitted_stand : (schema from : Schema) → IsValid schema → bounds_of schema.dimensions ≡ bounds_of from.dimensions → ((vs : List Datum) → AreOfKinds from.attributes vs → AreOfKinds schema.attributes vs)
     → (r : Result (List Row) Broken) → IfOk r (AreRowsOf from) → fault_of (if_whole (fit_rows schema.attributes) r) ≡ None → MayStand schema (rows_if_whole (if_whole (fit_rows schema.attributes) r))
 fitted_stand schema from valid bounds kinds (Ok rows) is none = (fit_array schema from rows valid bounds kinds is, fit_sound schema rows none)
-fitted_stand schema from valid bounds kinds (Err broken) is none = absurd cc
+fitted_stand schema from valid bounds kinds (Err broken) is none = absurd (none-some broken (sym none))
 
 new_stand : (db : Database) (o : Option NameEntry) (schema : Schema) (plan : Query) → IsValid schema → FitsInto o schema plan → IfOk (meaning (rows_of db) plan).rows (AreRowsOf (schema_of plan)) → fault_of (fitted schema plan db) ≡ None
     → MayStand schema (rows_if_whole (fitted schema plan db))
@@ -261,7 +262,7 @@ insert_suits db is name schema plan fits means none = by_found (find (is_named n
     rows = put_all (rows_if_whole (fitted schema plan db)) (newest_rows db name)
 
     by_found : (o : Option NameEntry) → find (is_named name) (map entry_of db) ≡ o → FitsInto o schema plan → AllByRecursion (Suits name rows) db
-    by_found None e f = weaker (λ a. is_array name a ≡ false) (Suits name rows) (λ a no yes. absurd cc) db (none_named name db e)
+    by_found None e f = weaker (λ a. is_array name a ≡ false) (Suits name rows) (λ a no yes. absurd (false≢true (sym no ∙ yes))) db (none_named name db e)
     by_found (Some entry) e f =
         let valid : IsValid schema = subst IsValid (sym f.0) (found_stored name entry (map entry_of db) is.names.each e).schema in
         let same : AllByRecursion (HasSchema name schema) db = found_schema name schema entry db f.0 is.names.rising e in

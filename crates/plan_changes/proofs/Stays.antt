@@ -5,6 +5,7 @@ use Rattle.std.specs.Option.{option_map}
 use Rattle.std.specs.Ordering.{nat_cmp, is_lt}
 use Rattle.std.specs.Cmp.Lexicographic.{slice_cmp, bytes_decides}
 use Rattle.std.specs.Str.{bytes_eq}
+use Rattle.std.proofs.lemmas.Bool.{false≢true}
 use Rattle.expr_nulls.specs.Row.{Row}
 use Rattle.expr_nulls.specs.Schema.{Schema}
 use Rattle.logical_plan.specs.declared.names.NameEntry.{NameEntry}
@@ -28,7 +29,7 @@ not_both a name other apart is = by_test (bytes_eq a other) refl
     by_test true e =
         let same : a ≡ other = (bytes_decides a other).0 e in
         let yes : bytes_eq other name ≡ true = subst (λ (n : List ℕ). bytes_eq n name ≡ true) same is in
-        absurd cc
+        absurd (false≢true (sym apart ∙ yes))
 
 -- ---- entries
 

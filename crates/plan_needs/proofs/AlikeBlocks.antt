@@ -3,7 +3,7 @@ use Rattle.std.proofs.Common.{◌≡◌, ℕ, suc, ◌+◌, ◌-◌, ◌*◌, �
 use Rattle.std.specs.Prelude.{nat_le, IfOk, IsTrue}
 use Rattle.std.specs.Int.{int_max, int_min}
 use Rattle.std.specs.List.{list_all}
-use Rattle.std.proofs.lemmas.Bool.{and_parts, leb-true}
+use Rattle.std.proofs.lemmas.Bool.{false≢true, and_parts, leb-true}
 use Rattle.std.proofs.lemmas.Int.{ints, clamps}
 use Rattle.std.proofs.Math.Nat.{div-le_self}
 use Rattle.cell_values.specs.declared.schema.Dimension.{Dimension}
@@ -101,10 +101,10 @@ block_held d size s x some near a b f g = by_test (is_empty (shared (all_of d) s
 blocks_hold : (dims : List Dimension) (sizes : List ℕ) (sides : Sides) (c : Coordinate) → length sizes ≡ length dims → IsTrue (list_all (λ size. nat_le 1 size) sizes) → AreNear dims → is_inside (bounds_of dims) c ≡ true
     → is_inside (box_of sides) (by_pairs (λ b x. b x) (by_pairs block (bounds_of dims).lo.items sizes) c) ≡ true → is_inside (box_of (of_regrid dims sizes sides)) c ≡ true
 blocks_hold [] sizes sides [] len some near e f = refl
-blocks_hold [] sizes sides (x ∷ c) len some near e f = absurd cc
+blocks_hold [] sizes sides (x ∷ c) len some near e f = absurd (false≢true e)
 blocks_hold (d ∷ dims) [] sides c len some near e f = absurd (omega arith)
-blocks_hold (d ∷ dims) (size ∷ sizes) sides [] len some near e f = absurd cc
-blocks_hold (d ∷ dims) (size ∷ sizes) [] (x ∷ c) len some near e f = absurd cc
+blocks_hold (d ∷ dims) (size ∷ sizes) sides [] len some near e f = absurd (false≢true e)
+blocks_hold (d ∷ dims) (size ∷ sizes) [] (x ∷ c) len some near e f = absurd (false≢true f)
 blocks_hold (d ∷ dims) (size ∷ sizes) (s ∷ sides) (x ∷ c) len some near e f =
     let one = and_parts (nat_le 1 size) (list_all (λ n. nat_le 1 n) sizes) some in
     let p = side_parts d.lo d.hi x (is_inside (bounds_of dims) c) e in

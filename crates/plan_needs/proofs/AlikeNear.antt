@@ -3,7 +3,7 @@ use Rattle.std.proofs.Common.{◌≡◌, ℕ, ◌≤◌, ℤ, pos, ◌+ℤ◌, �
 use Rattle.std.specs.Prelude.{◌==◌, nat_le, IsTrue}
 use Rattle.std.specs.Int.{int_min}
 use Rattle.std.specs.List.{AllByRecursion}
-use Rattle.std.proofs.lemmas.Bool.{and_parts, and_from, leb-true, eqb-true}
+use Rattle.std.proofs.lemmas.Bool.{false≢true, and_parts, and_from, leb-true, eqb-true}
 use Rattle.std.proofs.lemmas.Int.{ints, clamps}
 use Rattle.std.proofs.lemmas.List.{length-map}
 use Rattle.cell_values.specs.declared.datum.Cell.{Cell}
@@ -90,16 +90,16 @@ scan_part (applied source values) w rows k = within-cell_wise w (apply_cell valu
 scan_part (projected source places) w rows k = within-cell_wise w (project_cell places) (scan_rows source rows) ∙ ap (λ (l : List Row). project_rows places l) (scan_part source w rows k)
 scan_part (between source area) w rows k =
     swapped_filters (λ (row : Row). is_inside w row.at.items) (λ (row : Row). is_inside area row.at.items) (scan_rows source rows) ∙ ap (λ (l : List Row). within area l) (scan_part source w rows k)
-scan_part (built schema e) w rows k = absurd cc
-scan_part (listed schema r) w rows k = absurd cc
-scan_part (subarray source area) w rows k = absurd cc
-scan_part (sliced source fixed) w rows k = absurd cc
-scan_part (joined left right schema) w rows k = absurd cc
-scan_part (crossed left right pairs schema) w rows k = absurd cc
-scan_part (redimensioned source schema gs) w rows k = absurd cc
-scan_part (regridded source sizes gs) w rows k = absurd cc
-scan_part (windowed source reach gs) w rows k = absurd cc
-scan_part (aggregated source gs places) w rows k = absurd cc
+scan_part (built schema e) w rows k = absurd (false≢true k)
+scan_part (listed schema r) w rows k = absurd (false≢true k)
+scan_part (subarray source area) w rows k = absurd (false≢true k)
+scan_part (sliced source fixed) w rows k = absurd (false≢true k)
+scan_part (joined left right schema) w rows k = absurd (false≢true k)
+scan_part (crossed left right pairs schema) w rows k = absurd (false≢true k)
+scan_part (redimensioned source schema gs) w rows k = absurd (false≢true k)
+scan_part (regridded source sizes gs) w rows k = absurd (false≢true k)
+scan_part (windowed source reach gs) w rows k = absurd (false≢true k)
+scan_part (aggregated source gs places) w rows k = absurd (false≢true k)
 
 -- ---- where the cells of a scan stand
 
@@ -136,15 +136,15 @@ near_side d r k x y b a f l g h = from_sides (first_in d k) (last_in d k) f l
 window_in_frame : (dims : List Dimension) (reach : List Reach) (k : ChunkNumber) (c z : Coordinate) → are_near reach dims ≡ true → length reach ≡ length dims → is_inside (core dims k) c ≡ true → is_inside (window reach c) z ≡ true
     → is_inside (frame dims (overlaps dims) k) z ≡ true
 window_in_frame [] [] k [] [] n len e f = refl
-window_in_frame [] [] k [] (y ∷ z) n len e f = absurd cc
-window_in_frame [] [] k (x ∷ c) z n len e f = absurd cc
+window_in_frame [] [] k [] (y ∷ z) n len e f = absurd (false≢true f)
+window_in_frame [] [] k (x ∷ c) z n len e f = absurd (false≢true e)
 window_in_frame [] (r ∷ reach) k c z n len e f = absurd (omega arith)
 window_in_frame (d ∷ dims) [] k c z n len e f = absurd (omega arith)
 window_in_frame (d ∷ dims) (r ∷ reach) [] [] [] n len e f = refl
-window_in_frame (d ∷ dims) (r ∷ reach) [] [] (y ∷ z) n len e f = absurd cc
-window_in_frame (d ∷ dims) (r ∷ reach) [] (x ∷ c) z n len e f = absurd cc
-window_in_frame (d ∷ dims) (r ∷ reach) (k ∷ ks) [] z n len e f = absurd cc
-window_in_frame (d ∷ dims) (r ∷ reach) (k ∷ ks) (x ∷ c) [] n len e f = absurd cc
+window_in_frame (d ∷ dims) (r ∷ reach) [] [] (y ∷ z) n len e f = absurd (false≢true f)
+window_in_frame (d ∷ dims) (r ∷ reach) [] (x ∷ c) z n len e f = absurd (false≢true e)
+window_in_frame (d ∷ dims) (r ∷ reach) (k ∷ ks) [] z n len e f = absurd (false≢true e)
+window_in_frame (d ∷ dims) (r ∷ reach) (k ∷ ks) (x ∷ c) [] n len e f = absurd (false≢true f)
 window_in_frame (d ∷ dims) (r ∷ reach) (k ∷ ks) (x ∷ c) (y ∷ z) n len e f =
     let a = and_parts (is_near r d) (are_near reach dims) n in
     let b = and_parts (nat_le r.before d.overlap) (nat_le r.after d.overlap) a.0 in
@@ -239,13 +239,13 @@ scan_places (between source area) sides dims rows k t e all =
     both_hold source area sides dims rows t.1 e (within area (scan_rows source rows))
     (all_where (λ (row : Row). IsPlace source narrow dims rows row.at.items) (λ (row : Row). is_inside area row.at.items) (scan_rows source rows) (scan_places source narrow dims rows k t.0 (between_length (schema_of source) sides area e t.1) all))
     (all_tested (λ (row : Row). is_inside area row.at.items) (scan_rows source rows))
-scan_places (built schema v) sides dims rows k t e all = absurd cc
-scan_places (listed schema r) sides dims rows k t e all = absurd cc
-scan_places (subarray source area) sides dims rows k t e all = absurd cc
-scan_places (sliced source fixed) sides dims rows k t e all = absurd cc
-scan_places (joined left right schema) sides dims rows k t e all = absurd cc
-scan_places (crossed left right pairs schema) sides dims rows k t e all = absurd cc
-scan_places (redimensioned source schema gs) sides dims rows k t e all = absurd cc
-scan_places (regridded source sizes gs) sides dims rows k t e all = absurd cc
-scan_places (windowed source reach gs) sides dims rows k t e all = absurd cc
-scan_places (aggregated source gs places) sides dims rows k t e all = absurd cc
+scan_places (built schema v) sides dims rows k t e all = absurd (false≢true k)
+scan_places (listed schema r) sides dims rows k t e all = absurd (false≢true k)
+scan_places (subarray source area) sides dims rows k t e all = absurd (false≢true k)
+scan_places (sliced source fixed) sides dims rows k t e all = absurd (false≢true k)
+scan_places (joined left right schema) sides dims rows k t e all = absurd (false≢true k)
+scan_places (crossed left right pairs schema) sides dims rows k t e all = absurd (false≢true k)
+scan_places (redimensioned source schema gs) sides dims rows k t e all = absurd (false≢true k)
+scan_places (regridded source sizes gs) sides dims rows k t e all = absurd (false≢true k)
+scan_places (windowed source reach gs) sides dims rows k t e all = absurd (false≢true k)
+scan_places (aggregated source gs places) sides dims rows k t e all = absurd (false≢true k)

@@ -5,7 +5,7 @@ use Rattle.std.specs.Int.{int_max, int_min, w64, saturate_signed}
 use Rattle.std.specs.List.{AllByRecursion, list_any, list_all, find}
 use Rattle.std.specs.Option.{option_map}
 use Rattle.std.specs.Ordering.{int_eq}
-use Rattle.std.proofs.lemmas.Bool.{and_parts, eqb-true}
+use Rattle.std.proofs.lemmas.Bool.{false≢true, and_parts, eqb-true}
 use Rattle.std.proofs.lemmas.Int.{ints, clamps}
 use Rattle.cell_values.specs.declared.datum.Broken.{Broken}
 use Rattle.cell_values.specs.declared.datum.Row.{Row}
@@ -56,10 +56,10 @@ Fits x = (negsuc (2 ^ 63 - 1) ≤ℤ x) × (x ≤ℤ pos (2 ^ 63 - 1))
 part_fits : (dims : List Dimension) (lo hi : List ℤ) (c : Coordinate) → AreNear dims → is_inside (meet (bounds_of dims) (corners lo hi)) c ≡ true → AllByRecursion Fits c
 unfolding Fits
 part_fits dims lo hi [] near e = tt
-part_fits [] lo hi (x ∷ c) near e = absurd cc
-part_fits (d ∷ dims) [] [] (x ∷ c) near e = absurd cc
-part_fits (d ∷ dims) [] (h ∷ hi) (x ∷ c) near e = absurd cc
-part_fits (d ∷ dims) (l ∷ lo) [] (x ∷ c) near e = absurd cc
+part_fits [] lo hi (x ∷ c) near e = absurd (false≢true e)
+part_fits (d ∷ dims) [] [] (x ∷ c) near e = absurd (false≢true e)
+part_fits (d ∷ dims) [] (h ∷ hi) (x ∷ c) near e = absurd (false≢true e)
+part_fits (d ∷ dims) (l ∷ lo) [] (x ∷ c) near e = absurd (false≢true e)
 part_fits (d ∷ dims) (l ∷ lo) (h ∷ hi) (x ∷ c) near e =
     let p = side_parts (int_max d.lo l) (int_min d.hi h) x (is_inside (meet (bounds_of dims) (corners lo hi)) c) e in
     let low = near.0.low in
@@ -72,8 +72,8 @@ lifted_inside : (sides : Sides) (lows : List ℤ) (c : Coordinate) → length c 
 unfolding Fits
 lifted_inside [] lows [] len fits e = refl
 lifted_inside [] [] (x ∷ c) len fits e = absurd (omega arith)
-lifted_inside [] (l ∷ lows) (x ∷ c) len fits e = absurd cc
-lifted_inside (s ∷ sides) [] [] len fits e = absurd cc
+lifted_inside [] (l ∷ lows) (x ∷ c) len fits e = absurd (false≢true e)
+lifted_inside (s ∷ sides) [] [] len fits e = absurd (false≢true e)
 lifted_inside (s ∷ sides) [] (x ∷ c) len fits e = absurd (omega arith)
 lifted_inside (s ∷ sides) (l ∷ lows) [] len fits e = absurd (omega arith)
 lifted_inside (s ∷ sides) (l ∷ lows) (x ∷ c) len fits e =
@@ -130,8 +130,8 @@ shared_side d s x a b f g = (omega (arith, ints, clamps), omega (arith, ints, cl
 pub filled_inside : (given : ℕ → Option Stretch) (places : List ℕ) → ((k : ℕ) → list_any (λ p. p == k) places ≡ is_there (given k)) → (n : ℕ) (dims : List Dimension) (sides : Sides) (c : Coordinate)
     → is_inside (bounds_of dims) c ≡ true → GivenHold given n c → is_inside (box_of sides) (items_but places n c) ≡ true → is_inside (box_of (filled given n dims sides)) c ≡ true
 filled_inside given places same n [] sides [] e h f = refl
-filled_inside given places same n [] sides (x ∷ c) e h f = absurd cc
-filled_inside given places same n (d ∷ dims) sides [] e h f = absurd cc
+filled_inside given places same n [] sides (x ∷ c) e h f = absurd (false≢true e)
+filled_inside given places same n (d ∷ dims) sides [] e h f = absurd (false≢true e)
 filled_inside given places same n (d ∷ dims) sides (x ∷ c) e h f =
     let p = side_parts d.lo d.hi x (is_inside (bounds_of dims) c) e in
     by_given (given n) p.0 p.1 h.0 (λ rest i. filled_inside given places same (n + 1) dims rest c p.2 h.1 i) sides
@@ -143,7 +143,7 @@ filled_inside given places same n (d ∷ dims) sides (x ∷ c) e h f =
     by_given (Some s) a b g ih all i =
         let q = shared_side d s x a b g.0 g.1 in
         side_from (int_max d.lo s.first) (int_min d.hi s.last) x _ q.0 q.1 (ih all i)
-    by_given None a b g ih [] i = absurd cc
+    by_given None a b g ih [] i = absurd (false≢true i)
     by_given None a b g ih (s ∷ rest) i =
         let r = side_parts s.first s.last x (is_inside (box_of rest) (items_but places (n + 1) c)) i in
         let q = shared_side d s x a b r.0 r.1 in

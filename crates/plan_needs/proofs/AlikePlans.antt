@@ -4,7 +4,7 @@ use Rattle.std.specs.Prelude.{◌&&◌, ◌==◌, nat_le, IfOk}
 use Rattle.std.specs.Int.{int_max}
 use Rattle.std.specs.Ordering.{int_eq}
 use Rattle.std.specs.List.{AllZip, list_any, list_all}
-use Rattle.std.proofs.lemmas.Bool.{and_parts, eqb-true}
+use Rattle.std.proofs.lemmas.Bool.{false≢true, and_parts, eqb-true}
 use Rattle.std.proofs.lemmas.List.{length-map}
 use Rattle.cell_values.specs.declared.datum.Broken.{Broken}
 use Rattle.cell_values.specs.declared.datum.Row.{Row}
@@ -107,8 +107,8 @@ side_dimensions dims attributes =
 
 equal_lengths : (left right : List Dimension) → same_bounds left right ≡ true → length left ≡ length right
 equal_lengths [] [] e = refl
-equal_lengths [] (b ∷ right) e = absurd cc
-equal_lengths (a ∷ left) [] e = absurd cc
+equal_lengths [] (b ∷ right) e = absurd (false≢true e)
+equal_lengths (a ∷ left) [] e = absurd (false≢true e)
 equal_lengths (a ∷ left) (b ∷ right) e = ap suc (equal_lengths left right (and_parts (int_eq a.lo b.lo && int_eq a.hi b.hi) (same_bounds left right) e).1)
 
 whole_box : (dims : List Dimension) → box_of (whole dims) ≡ bounds_of dims
@@ -135,16 +135,16 @@ scan_meaning db (filtered source test) other k = ap (λ (r : Result (List Row) B
 scan_meaning db (applied source values) other k = ap (λ (r : Result (List Row) Broken). if_whole (apply_rows values) r) (scan_meaning db source other k)
 scan_meaning db (projected source places) other k = ap (λ (r : Result (List Row) Broken). if_whole (project_rows places) r) (scan_meaning db source other k)
 scan_meaning db (between source area) other k = ap (λ (r : Result (List Row) Broken). if_whole (within area) r) (scan_meaning db source other k)
-scan_meaning db (built schema e) other k = absurd cc
-scan_meaning db (listed schema r) other k = absurd cc
-scan_meaning db (subarray source area) other k = absurd cc
-scan_meaning db (sliced source fixed) other k = absurd cc
-scan_meaning db (joined left right schema) other k = absurd cc
-scan_meaning db (crossed left right pairs schema) other k = absurd cc
-scan_meaning db (redimensioned source schema gs) other k = absurd cc
-scan_meaning db (regridded source sizes gs) other k = absurd cc
-scan_meaning db (windowed source reach gs) other k = absurd cc
-scan_meaning db (aggregated source gs places) other k = absurd cc
+scan_meaning db (built schema e) other k = absurd (false≢true k)
+scan_meaning db (listed schema r) other k = absurd (false≢true k)
+scan_meaning db (subarray source area) other k = absurd (false≢true k)
+scan_meaning db (sliced source fixed) other k = absurd (false≢true k)
+scan_meaning db (joined left right schema) other k = absurd (false≢true k)
+scan_meaning db (crossed left right pairs schema) other k = absurd (false≢true k)
+scan_meaning db (redimensioned source schema gs) other k = absurd (false≢true k)
+scan_meaning db (regridded source sizes gs) other k = absurd (false≢true k)
+scan_meaning db (windowed source reach gs) other k = absurd (false≢true k)
+scan_meaning db (aggregated source gs places) other k = absurd (false≢true k)
 
 scan_dimensions : (query : Query) (other : Leaf) → is_scan query ≡ true → (leaf_under query other).schema.dimensions ≡ (schema_of query).dimensions
 scan_dimensions (scanned leaf) other k = refl
@@ -152,16 +152,16 @@ scan_dimensions (filtered source test) other k = scan_dimensions source other k
 scan_dimensions (applied source values) other k = scan_dimensions source other k
 scan_dimensions (projected source places) other k = scan_dimensions source other k
 scan_dimensions (between source area) other k = scan_dimensions source other k
-scan_dimensions (built schema e) other k = absurd cc
-scan_dimensions (listed schema r) other k = absurd cc
-scan_dimensions (subarray source area) other k = absurd cc
-scan_dimensions (sliced source fixed) other k = absurd cc
-scan_dimensions (joined left right schema) other k = absurd cc
-scan_dimensions (crossed left right pairs schema) other k = absurd cc
-scan_dimensions (redimensioned source schema gs) other k = absurd cc
-scan_dimensions (regridded source sizes gs) other k = absurd cc
-scan_dimensions (windowed source reach gs) other k = absurd cc
-scan_dimensions (aggregated source gs places) other k = absurd cc
+scan_dimensions (built schema e) other k = absurd (false≢true k)
+scan_dimensions (listed schema r) other k = absurd (false≢true k)
+scan_dimensions (subarray source area) other k = absurd (false≢true k)
+scan_dimensions (sliced source fixed) other k = absurd (false≢true k)
+scan_dimensions (joined left right schema) other k = absurd (false≢true k)
+scan_dimensions (crossed left right pairs schema) other k = absurd (false≢true k)
+scan_dimensions (redimensioned source schema gs) other k = absurd (false≢true k)
+scan_dimensions (regridded source sizes gs) other k = absurd (false≢true k)
+scan_dimensions (windowed source reach gs) other k = absurd (false≢true k)
+scan_dimensions (aggregated source gs places) other k = absurd (false≢true k)
 
 -- the array of the leaf, and what is alike of it
 abbrev leaf_rows : Database → Query → Leaf → List Row
@@ -173,16 +173,16 @@ scan_array db (filtered source test) other k l = scan_array db source other k l
 scan_array db (applied source values) other k l = scan_array db source other k l
 scan_array db (projected source places) other k l = scan_array db source other k l
 scan_array db (between source area) other k l = scan_array db source other k l
-scan_array db (built schema e) other k l = absurd cc
-scan_array db (listed schema r) other k l = absurd cc
-scan_array db (subarray source area) other k l = absurd cc
-scan_array db (sliced source fixed) other k l = absurd cc
-scan_array db (joined left right schema) other k l = absurd cc
-scan_array db (crossed left right pairs schema) other k l = absurd cc
-scan_array db (redimensioned source schema gs) other k l = absurd cc
-scan_array db (regridded source sizes gs) other k l = absurd cc
-scan_array db (windowed source reach gs) other k l = absurd cc
-scan_array db (aggregated source gs places) other k l = absurd cc
+scan_array db (built schema e) other k l = absurd (false≢true k)
+scan_array db (listed schema r) other k l = absurd (false≢true k)
+scan_array db (subarray source area) other k l = absurd (false≢true k)
+scan_array db (sliced source fixed) other k l = absurd (false≢true k)
+scan_array db (joined left right schema) other k l = absurd (false≢true k)
+scan_array db (crossed left right pairs schema) other k l = absurd (false≢true k)
+scan_array db (redimensioned source schema gs) other k l = absurd (false≢true k)
+scan_array db (regridded source sizes gs) other k l = absurd (false≢true k)
+scan_array db (windowed source reach gs) other k l = absurd (false≢true k)
+scan_array db (aggregated source gs places) other k l = absurd (false≢true k)
 
 scan_alike : (a b : Database) (query : Query) (other : Leaf) (sides : Sides) → is_scan query ≡ true → AreAlikeFor a b query (needs query sides) → HaveAlike (leaf_under query other).schema.dimensions (leaf_box query sides) (leaf_rows a query other) (leaf_rows b query other)
 scan_alike a b (scanned leaf) other sides k h = h.0
@@ -190,16 +190,16 @@ scan_alike a b (filtered source test) other sides k h = scan_alike a b source ot
 scan_alike a b (applied source values) other sides k h = scan_alike a b source other sides k h
 scan_alike a b (projected source places) other sides k h = scan_alike a b source other sides k h
 scan_alike a b (between source area) other sides k h = scan_alike a b source other (of_between area sides) k h
-scan_alike a b (built schema e) other sides k h = absurd cc
-scan_alike a b (listed schema r) other sides k h = absurd cc
-scan_alike a b (subarray source area) other sides k h = absurd cc
-scan_alike a b (sliced source fixed) other sides k h = absurd cc
-scan_alike a b (joined left right schema) other sides k h = absurd cc
-scan_alike a b (crossed left right pairs schema) other sides k h = absurd cc
-scan_alike a b (redimensioned source schema gs) other sides k h = absurd cc
-scan_alike a b (regridded source sizes gs) other sides k h = absurd cc
-scan_alike a b (windowed source reach gs) other sides k h = absurd cc
-scan_alike a b (aggregated source gs places) other sides k h = absurd cc
+scan_alike a b (built schema e) other sides k h = absurd (false≢true k)
+scan_alike a b (listed schema r) other sides k h = absurd (false≢true k)
+scan_alike a b (subarray source area) other sides k h = absurd (false≢true k)
+scan_alike a b (sliced source fixed) other sides k h = absurd (false≢true k)
+scan_alike a b (joined left right schema) other sides k h = absurd (false≢true k)
+scan_alike a b (crossed left right pairs schema) other sides k h = absurd (false≢true k)
+scan_alike a b (redimensioned source schema gs) other sides k h = absurd (false≢true k)
+scan_alike a b (regridded source sizes gs) other sides k h = absurd (false≢true k)
+scan_alike a b (windowed source reach gs) other sides k h = absurd (false≢true k)
+scan_alike a b (aggregated source gs places) other sides k h = absurd (false≢true k)
 
 rows_in : Result (List Row) Broken → List Row
 rows_in (Ok rows) = rows

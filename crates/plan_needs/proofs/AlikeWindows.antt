@@ -3,6 +3,7 @@ use Rattle.std.proofs.Common.{◌≡◌, ◌-◌, ◌^◌, ℤ, pos, negsuc, ◌
 use Rattle.std.specs.Prelude.{IfOk}
 use Rattle.std.specs.Int.{w64, saturate_signed}
 use Rattle.std.specs.List.{AllByRecursion}
+use Rattle.std.proofs.lemmas.Bool.{false≢true}
 use Rattle.std.proofs.lemmas.Int.{ints}
 use Rattle.cell_values.specs.declared.datum.Broken.{Broken}
 use Rattle.cell_values.specs.declared.datum.Cell.{Cell}
@@ -75,11 +76,11 @@ grown_held d r s x y near a b f g l h = by_test (is_empty s) refl
 windows_hold : (dims : List Dimension) (reach : List Reach) (sides : Sides) (c z : Coordinate) → AreNear dims → is_inside (bounds_of dims) z ≡ true → is_inside (box_of sides) c ≡ true → is_inside (window reach c) z ≡ true
     → is_inside (box_of (of_windows dims reach sides)) z ≡ true
 windows_hold [] reach sides c [] near e f g = refl
-windows_hold [] reach sides c (y ∷ z) near e f g = absurd cc
-windows_hold (d ∷ dims) reach sides c [] near e f g = absurd cc
-windows_hold (d ∷ dims) reach sides [] (y ∷ z) near e f g = absurd cc
-windows_hold (d ∷ dims) [] sides (x ∷ c) (y ∷ z) near e f g = absurd cc
-windows_hold (d ∷ dims) (r ∷ reach) [] (x ∷ c) (y ∷ z) near e f g = absurd cc
+windows_hold [] reach sides c (y ∷ z) near e f g = absurd (false≢true e)
+windows_hold (d ∷ dims) reach sides c [] near e f g = absurd (false≢true e)
+windows_hold (d ∷ dims) reach sides [] (y ∷ z) near e f g = absurd (false≢true g)
+windows_hold (d ∷ dims) [] sides (x ∷ c) (y ∷ z) near e f g = absurd (false≢true g)
+windows_hold (d ∷ dims) (r ∷ reach) [] (x ∷ c) (y ∷ z) near e f g = absurd (false≢true f)
 windows_hold (d ∷ dims) (r ∷ reach) (s ∷ sides) (x ∷ c) (y ∷ z) near e f g =
     let p = side_parts d.lo d.hi y (is_inside (bounds_of dims) z) e in
     let q = side_parts s.first s.last x (is_inside (box_of sides) c) f in
@@ -95,8 +96,8 @@ own_window (r ∷ reach) (x ∷ c) e = side_from (x -ℤ pos r.before) (x +ℤ p
 
 pub bounds_length : (dims : List Dimension) (c : Coordinate) → is_inside (bounds_of dims) c ≡ true → length c ≡ length dims
 bounds_length [] [] f = refl
-bounds_length [] (x ∷ c) f = absurd cc
-bounds_length (d ∷ dims) [] f = absurd cc
+bounds_length [] (x ∷ c) f = absurd (false≢true f)
+bounds_length (d ∷ dims) [] f = absurd (false≢true f)
 bounds_length (d ∷ dims) (x ∷ c) f = let t = bounds_length dims c (side_parts d.lo d.hi x (is_inside (bounds_of dims) c) f).2 in omega arith
 
 -- ---- windows in a box

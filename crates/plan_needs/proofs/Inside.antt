@@ -3,7 +3,7 @@ use Rattle.std.proofs.Common.{◌≡◌, ℕ, zero, suc, ◌+◌, ◌-◌, ◌/�
 use Rattle.std.specs.Prelude.{◌&&◌, ◌==◌, int_le, nat_lt, slice_get, slice_index_or, IsTrue}
 use Rattle.std.specs.Int.{int_max, int_min, w64, saturate_signed}
 use Rattle.std.specs.List.{AllByRecursion, list_any, list_all, cons_option}
-use Rattle.std.proofs.lemmas.Bool.{and_parts, and_from, ltb-true}
+use Rattle.std.proofs.lemmas.Bool.{false≢true, and_parts, and_from, ltb-true}
 use Rattle.std.proofs.lemmas.Int.{ints, clamps}
 use Rattle.std.proofs.lemmas.Nat.{le-div}
 use Rattle.std.proofs.Math.Nat.{div-mul-le_self}
@@ -66,14 +66,14 @@ part_side d low high x near a b =
 pub part_inside : (dims : List Dimension) (lo hi : List ℤ) (c : Coordinate) → AreNear dims → is_inside (meet (bounds_of dims) (corners lo hi)) c ≡ true
     → is_inside (bounds_of (subarray_dimensions dims lo hi)) (by_pairs (λ x l. x -ℤ l) c (meet (bounds_of dims) (corners lo hi)).lo.items) ≡ true
 part_inside [] lo hi [] near e = refl
-part_inside [] lo hi (x ∷ c) near e = absurd cc
+part_inside [] lo hi (x ∷ c) near e = absurd (false≢true e)
 part_inside (d ∷ dims) [] [] [] near e = refl
-part_inside (d ∷ dims) [] [] (x ∷ c) near e = absurd cc
-part_inside (d ∷ dims) [] (h ∷ hi) [] near e = absurd cc
-part_inside (d ∷ dims) [] (h ∷ hi) (x ∷ c) near e = absurd cc
-part_inside (d ∷ dims) (l ∷ lo) [] [] near e = absurd cc
-part_inside (d ∷ dims) (l ∷ lo) [] (x ∷ c) near e = absurd cc
-part_inside (d ∷ dims) (l ∷ lo) (h ∷ hi) [] near e = absurd cc
+part_inside (d ∷ dims) [] [] (x ∷ c) near e = absurd (false≢true e)
+part_inside (d ∷ dims) [] (h ∷ hi) [] near e = absurd (false≢true e)
+part_inside (d ∷ dims) [] (h ∷ hi) (x ∷ c) near e = absurd (false≢true e)
+part_inside (d ∷ dims) (l ∷ lo) [] [] near e = absurd (false≢true e)
+part_inside (d ∷ dims) (l ∷ lo) [] (x ∷ c) near e = absurd (false≢true e)
+part_inside (d ∷ dims) (l ∷ lo) (h ∷ hi) [] near e = absurd (false≢true e)
 part_inside (d ∷ dims) (l ∷ lo) (h ∷ hi) (x ∷ c) near e =
     let p = side_parts (int_max d.lo l) (int_min d.hi h) x (is_inside (meet (bounds_of dims) (corners lo hi)) c) e in
     let q = part_side d l h x near.0 p.0 p.1 in
@@ -83,8 +83,8 @@ part_inside (d ∷ dims) (l ∷ lo) (h ∷ hi) (x ∷ c) near e =
 
 pub but_inside : (places : List ℕ) (n : ℕ) (dims : List Dimension) (c : Coordinate) → is_inside (bounds_of dims) c ≡ true → is_inside (bounds_of (items_but places n dims)) (items_but places n c) ≡ true
 but_inside places n [] [] e = refl
-but_inside places n [] (x ∷ c) e = absurd cc
-but_inside places n (d ∷ dims) [] e = absurd cc
+but_inside places n [] (x ∷ c) e = absurd (false≢true e)
+but_inside places n (d ∷ dims) [] e = absurd (false≢true e)
 but_inside places n (d ∷ dims) (x ∷ c) e =
     let p = side_parts d.lo d.hi x (is_inside (bounds_of dims) c) e in
     by_test (list_any (λ place. place == n) places) p.0 p.1 (but_inside places (n + 1) dims c p.2)
@@ -106,8 +106,8 @@ renamed_bounds dims names l = λ i. corners (renamed_low (λ d. d.lo) (λ d name
 
 pub beside_inside : (a b : List Dimension) (c e : Coordinate) → is_inside (bounds_of a) c ≡ true → is_inside (bounds_of b) e ≡ true → is_inside (bounds_of (a ++ b)) (c ++ e) ≡ true
 beside_inside [] b [] e f g = g
-beside_inside [] b (x ∷ c) e f g = absurd cc
-beside_inside (d ∷ a) b [] e f g = absurd cc
+beside_inside [] b (x ∷ c) e f g = absurd (false≢true f)
+beside_inside (d ∷ a) b [] e f g = absurd (false≢true f)
 beside_inside (d ∷ a) b (x ∷ c) e f g =
     let p = side_parts d.lo d.hi x (is_inside (bounds_of a) c) f in
     side_from d.lo d.hi x _ p.0 p.1 (beside_inside a b c e p.2 g)
@@ -125,7 +125,7 @@ named_inside (p ∷ places) dims c b e =
     one : (ds : List Dimension) (z : Coordinate) (n : ℕ) → n < length ds → is_inside (bounds_of ds) z ≡ true → is_inside (bounds_of (map without_overlap (items_at places dims))) (numbers_at places c) ≡ true
         → is_inside (bounds_of (map without_overlap (cons_option (slice_get ds n) (items_at places dims)))) (slice_index_or z n (pos 0) ∷ numbers_at places c) ≡ true
     one [] z n l i ih = absurd (omega arith)
-    one (d ∷ ds) [] n l i ih = absurd cc
+    one (d ∷ ds) [] n l i ih = absurd (false≢true i)
     one (d ∷ ds) (x ∷ z) zero l i ih = let s = side_parts d.lo d.hi x (is_inside (bounds_of ds) z) i in side_from d.lo d.hi x _ s.0 s.1 ih
     one (d ∷ ds) (x ∷ z) (suc n) l i ih = one ds z n (omega arith) (side_parts d.lo d.hi x (is_inside (bounds_of ds) z) i).2 ih
 
@@ -157,7 +157,7 @@ pub blocks_inside : (dims : List Dimension) (sizes : List ℕ) (c : Coordinate) 
     → is_inside (bounds_of (by_pairs in_blocks dims sizes)) (by_pairs (λ b x. b x) (by_pairs block (bounds_of dims).lo.items sizes) c) ≡ true
 blocks_inside [] sizes c near e = refl
 blocks_inside (d ∷ dims) [] c near e = refl
-blocks_inside (d ∷ dims) (size ∷ sizes) [] near e = absurd cc
+blocks_inside (d ∷ dims) (size ∷ sizes) [] near e = absurd (false≢true e)
 blocks_inside (d ∷ dims) (size ∷ sizes) (x ∷ c) near e =
     let p = side_parts d.lo d.hi x (is_inside (bounds_of dims) c) e in
     let q = block_side d size x near.0 p.0 p.1 in

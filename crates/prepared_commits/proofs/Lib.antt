@@ -8,4 +8,6 @@ pub use Rattle.store_state.proofs.Places
 pub use Rattle.store_state.proofs.Sights
 pub mod Comes
 pub mod CostLaws
+pub mod Making
 pub mod Newest
+pub mod Reaping

@@ -1,5 +1,5 @@
 -- Rows that gather the cells which land at one coordinate.
-use Rattle.std.proofs.Common.{◌≡◌, ◌<◌, ◌≤◌, ◌^◌, false, cond, IsTrue, List, [], ◌∷◌, map, filter, length, Some, Result, Ok, Err, refl, sym, ap, ◌∙◌, subst, arith}
+use Rattle.std.proofs.Common.{◌≡◌, ◌<◌, ◌≤◌, ◌^◌, false, cond, IsTrue, List, [], ◌∷◌, map, filter, length, Option, Some, None, Result, Ok, Err, refl, sym, ap, ◌∙◌, subst, arith}
 use Rattle.std.specs.List.{AllByRecursion, AllZip, list_all}
 use Rattle.std.specs.Option.{option_map}
 use Rattle.std.specs.Prelude.{IfOk}
@@ -16,7 +16,7 @@ use Rattle.cell_values.specs.declared.schema.Schema.{Schema}
 use Rattle.cell_values.specs.Cells.{IsCellOf}
 use Rattle.cell_values.specs.Schemas.{IsValid}
 use Rattle.array_parts.proofs.CoreLaws.{cores_are_rows}
-use Rattle.array_parts.specs.Cores.{HaveCells, cores_of}
+use Rattle.array_parts.specs.Cores.{HaveCells, cores_of, unless_broken}
 use Rattle.array_geom.specs.declared.chunk.ChunkedArray.{ChunkedArray}
 use Rattle.array_rows.specs.Arrays.{AreRowsOf}
 use Rattle.array_rows.specs.Boxes.{is_inside, bounds_of}
@@ -24,9 +24,10 @@ use Rattle.array_rows.specs.Rows.{Coordinate, row_major, placed, cell_at, in_ord
 use Rattle.array_rows.proofs.RowsLemmas.{row_major_exact, same_rows}
 use Rattle.array_rows.proofs.RowSets.{IsRising-in_order, cell_at-in_order}
 use Rattle.logical_plan.specs.declared.parts.Aggregate.{Aggregate}
-use Rattle.logical_plan.specs.Faults.{if_whole}
+use Rattle.logical_plan.specs.CellOps.{fit_rows}
+use Rattle.logical_plan.specs.Faults.{and_then, if_whole}
 use Rattle.logical_plan.specs.Groups.{aggregates_of}
-use Rattle.logical_plan.specs.Redimension.{Landed, origin_of, landed, landed_at, named, by_names, gathered_rows}
+use Rattle.logical_plan.specs.Redimension.{Landed, origin_of, landed, landed_at, named, by_names, gathered_rows, redimension_rows}
 use Rattle.logical_plan.specs.Typing.{is_kind_of}
 use Rattle.group_rows.specs.declared.rows.groups.Groups.{Groups}
 use Rattle.group_rows.specs.Counts.{cells_in}
@@ -153,3 +154,14 @@ module _ (source target : Schema) (gs : List Aggregate) (rows : List Row) (are :
 pub of_cores : (array : ChunkedArray) (source : Schema) (rows : List Row) → source ≡ array.schema → rows ≡ cores_of array → HaveCells array.schema array.margins.items array.chunks → AreRowsOf source rows
 of_cores array source rows s c h =
     subst (λ (z : Schema). AreRowsOf z rows) (sym s) (subst (AreRowsOf array.schema) (sym c) (cores_are_rows array.schema array.margins.items array.chunks h))
+
+-- what an array becomes that is not broken, from the rows of its cores
+pub redimensioned : (source target : Schema) (aggs : List Aggregate) (array : ChunkedArray) (rows : List Row) (made : Result (List Row) Broken) → 1 ≤ length aggs
+    → array.broken ≡ None → source ≡ array.schema → rows ≡ cores_of array
+    → made ≡ gathered_rows (map (origin_of source) target.dimensions) (bounds_of target.dimensions) target.attributes aggs rows
+    → and_then (redimension_rows array.schema target aggs) (unless_broken array.broken (cores_of array)) ≡ if_whole (fit_rows target.attributes) made
+redimensioned source target [] array rows made some whole same are is = absurd (omega (arith, some))
+redimensioned source target (g ∷ gs) array rows made some whole same are is =
+    ap (λ (o : Option Broken). and_then (redimension_rows array.schema target (g ∷ gs)) (unless_broken o (cores_of array))) whole
+    ∙ ap (λ (s : Schema). redimension_rows s target (g ∷ gs) (cores_of array)) (sym same)
+    ∙ ap (λ (z : List Row). redimension_rows source target (g ∷ gs) z) (sym are) ∙ ap (if_whole (fit_rows target.attributes)) (sym is)

@@ -24,7 +24,7 @@ use Rattle.array_rows.proofs.RowSets.{IsRising-in_order, IsRising-rows_where, ce
 use Rattle.array_rows.proofs.RowsLemmas.{same_rows, within-cell_wise}
 use Rattle.array_geom.specs.declared.chunk.Chunk.{Chunk}
 use Rattle.array_geom.specs.declared.chunk.ChunkedArray.{ChunkedArray}
-use Rattle.array_geom.specs.Geometry.{ChunkNumber, HasFrame, core, frame}
+use Rattle.array_geom.specs.Geometry.{ChunkNumber, HasFrame, core, frame, volume}
 use Rattle.array_geom.specs.Link.{HoldsRows, Is, IsPart, NumbersRise, chunk_rows, has_cell, is_listed, is_not_empty, number_order, numbers, rows_in}
 use Rattle.array_geom.proofs.CoreLaws.{core_in_frame}
 use Rattle.array_geom.proofs.LinkLaws.{within-within}
@@ -71,6 +71,18 @@ pub done : (low : List ℤ) (lengths : List ℕ) (rows : List Row) (i : ℕ) (ce
     → length positions ≤ i → IsOnTheWay low lengths rows (drop i positions) cells positions all → rows ≡ rows_in low lengths positions all
 done low lengths rows i cells positions all l h =
     sym (append-nil rows) ∙ ap (λ (ps : List ℕ). rows ++ rows_in low lengths ps cells) (sym (drop_all i positions l)) ∙ h
+
+-- each place is one of the frame
+place_at : (n : ℕ) (positions : List ℕ) (i : ℕ) → AllByRecursion (λ p. p < n) positions → i < length positions → slice_index_or positions i 0 < n
+place_at n [] i a h = absurd (omega (arith, h))
+place_at n (p ∷ positions) zero a h = a.0
+place_at n (p ∷ positions) (suc i) a h = place_at n positions i a.1 (omega (arith, h))
+
+pub place_inside : (lengths own positions listed : List ℕ) (i : ℕ) → own ≡ lengths → listed ≡ positions → AllByRecursion (λ p. p < volume lengths) positions
+    → i < length listed → slice_index_or listed i 0 < volume own
+place_inside lengths own positions listed i e f a h =
+    subst (λ (ns : List ℕ). slice_index_or listed i 0 < volume ns) (sym e)
+    (place_at (volume lengths) listed i (subst (AllByRecursion (λ p. p < volume lengths)) (sym f) a) h)
 
 -- ---- rows in order, and those of a box
 

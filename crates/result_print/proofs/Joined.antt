@@ -1,8 +1,9 @@
 -- Texts with commas between.
 use Rattle.std.proofs.Common.{◌≡◌, ℕ, zero, suc, ◌+◌, ◌<◌, List, [], ◌∷◌, ◌++◌, map, length, take, slice_index_or, true, refl, sym, ap, ◌∙◌, arith, append_assoc}
 use Rattle.std.specs.Prelude.{nat_lt, if◌then◌else◌}
+use Rattle.std.specs.List.{flat_map}
 use Rattle.std.proofs.lemmas.Bool.{lt-ltb}
-use Rattle.std.proofs.lemmas.List.{take_more, map-append, length-map, length-take}
+use Rattle.std.proofs.lemmas.List.{flat_map_more, map_more, take_more, map-append, length-map, length-take}
 use Rattle.schema_grammar.specs.SchemaBytes.{separator}
 use Rattle.result_print.specs.Texts.{listed}
 
@@ -38,3 +39,18 @@ listed_after bytes parts at part start before between after h is p q r =
     ∙ append_assoc start (joined ++ separator at) (bytes part)
     ∙ ap (λ x. start ++ (joined ++ separator at ++ bytes x)) is
     ∙ ap (λ l. start ++ l) (sym (listed_step bytes parts at part h))
+
+-- a loop's step: what stood before, and what the next item gives
+pub flat_after : {T : Type 0} (f : T → List ℕ) (parts : List T) (at : ℕ) (part d : T) (start before after : List ℕ) → at < length parts
+    → part ≡ slice_index_or parts at d → before ≡ start ++ flat_map f (take at parts) → after ≡ before ++ f part
+    → after ≡ start ++ flat_map f (take (at + 1) parts)
+flat_after f parts at part d start before after h is p q =
+    q ∙ ap (λ l. l ++ f part) p ∙ flat_map_more f start (take at parts) part
+    ∙ ap (λ l. start ++ flat_map f l) (ap (λ x. take at parts ++ x ∷ []) is ∙ sym (take_more parts at d h))
+
+pub mapped_after : {T : Type 0} (f : T → List ℕ) (parts : List T) (at : ℕ) (part : T) (start before after : List (List ℕ)) (one : List ℕ) → at < length parts
+    → part ≡ slice_index_or parts at part → before ≡ start ++ map f (take at parts) → one ≡ f part → after ≡ before ++ one ∷ []
+    → after ≡ start ++ map f (take (at + 1) parts)
+mapped_after f parts at part start before after one h is p same q =
+    q ∙ ap (λ x. before ++ x ∷ []) (same ∙ ap f is) ∙ ap (λ l. l ++ f (slice_index_or parts at part) ∷ []) p
+    ∙ append_assoc start (map f (take at parts)) (f (slice_index_or parts at part) ∷ []) ∙ ap (λ l. start ++ l) (sym (map_more f parts at part h))

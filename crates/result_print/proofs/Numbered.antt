@@ -1,7 +1,13 @@
 -- Lines with numbers that rise.
 use Rattle.std.proofs.Common.{◌≡◌, ℕ, suc, ◌+◌, ◌<◌, List, [], ◌∷◌, ◌++◌, length, take, slice_index_or, sym, ap, ◌∙◌, arith, append_assoc}
 use Rattle.std.proofs.lemmas.List.{append-nil, take_more, length-take}
-use Rattle.result_print.specs.Listings.{numbered}
+use Rattle.std.specs.Prelude.{codes}
+use Rattle.std.specs.Fmt.{decimal}
+use Rattle.afl_lexer.specs.Spelling.{quoted_text}
+use Rattle.logical_plan.specs.declared.names.NameEntry.{NameEntry}
+use Rattle.schema_grammar.specs.SchemaBytes.{schema_bytes}
+use Rattle.schema_grammar.proofs.Joined.{ended, more}
+use Rattle.result_print.specs.Listings.{array_line, numbered}
 
 numbered_append : {A : Type 0} (line : ℕ → A → List ℕ) (k : ℕ) (xs ys : List A) → numbered line k (xs ++ ys) ≡ numbered line k xs ++ numbered line (k + length xs) ys
 numbered_append line k [] ys = let same : k ≡ k + 0 = omega arith in ap (λ n. numbered line n ys) same
@@ -29,3 +35,14 @@ pub numbered_after : {A : Type 0} (line : ℕ → A → List ℕ) (k : ℕ) (ite
 numbered_after line k items at number item d start before after h same is p q =
     q ∙ ap (λ l. l ++ line number item) p ∙ append_assoc start (numbered line k (take at items)) (line number item)
     ∙ ap (λ l. start ++ l) (sym (numbered_step line k items at number item d h same is))
+
+-- the line of an array, part by part
+pub line_made : (k : ℕ) (entry : NameEntry) (name start number named comma all : List ℕ) → name ≡ entry.name
+    → number ≡ start ++ (codes "{" ++ decimal k ++ codes "} ") → named ≡ number ++ quoted_text name → comma ≡ named ++ codes ","
+    → all ≡ comma ++ quoted_text (schema_bytes entry.schema) → all ++ codes "\n" ≡ start ++ array_line k entry
+line_made k entry name start number named comma all is p q r s =
+    let text = quoted_text entry.name in
+    let first = more start number named (codes "{" ++ decimal k ++ codes "} ") text p (q ∙ ap (λ n. number ++ quoted_text n) is) in
+    let second = more start named comma (codes "{" ++ decimal k ++ codes "} " ++ text) (codes ",") first r in
+    let third = more start comma all (codes "{" ++ decimal k ++ codes "} " ++ text ++ codes ",") (quoted_text (schema_bytes entry.schema)) second s in
+    ended start all (codes "{" ++ decimal k ++ codes "} " ++ text ++ codes "," ++ quoted_text (schema_bytes entry.schema)) (codes "\n") third

@@ -1,5 +1,5 @@
 //! The line of a refusal.
-ghost use Rattle.std.specs.Prelude.{◌≡◌, ◌++◌, codes, IfOk};
+ghost use Rattle.std.specs.Prelude.{◌≡◌, ◌++◌, codes, IfOk, OnOk};
 ghost use Rattle.std.specs.Fmt.{decimal};
 ghost use Rattle.result_print.specs.Lines.{line_of_refusal, fault_text, stop_text, type_text};
 ghost use Rattle.result_print.specs.Texts.{place_text};
@@ -11,6 +11,15 @@ use afl_trees::ParseKind;
 use cell_values::{Bytes, Coord, FaultKind, Memory, Span};
 use schema_grammar::TypeKind;
 use std::alloc::Global;
+
+/// Ends a line with the words of a kind.
+fn write_words(line: &mut Bytes, words: &[u8]) -> Result<(), Memory>
+    ensures { OnOk result (line.new ≡ line.old ++ (codes ": " ++ words.now ++ codes "\n")) }
+{
+    line.extend(b": ")?;
+    line.extend(words)?;
+    line.push(b'\n')
+}
 
 fn length_line(alloc: Global, bytes: u64) -> Result<Bytes, Memory>
     ensures { IfOk result (λ line. line ≡ codes "error: too long: " ++ decimal bytes ++ codes " bytes\n") }
@@ -26,9 +35,7 @@ fn parse_line(alloc: Global, at: u32, kind: ParseKind) -> Result<Bytes, Memory>
 {
     let mut line = Bytes::from_slice(alloc, b"error: parse at ")?;
     write_count(&mut line, u64::from(at))?;
-    line.extend(b": ")?;
-    line.extend(stop_words(kind))?;
-    line.push(b'\n')?;
+    write_words(&mut line, stop_words(kind))?;
     Ok(line)
 }
 
@@ -40,9 +47,7 @@ fn type_line(alloc: Global, span: Span, kind: TypeKind) -> Result<Bytes, Memory>
     write_count(&mut line, u64::from(span.start))?;
     line.extend(b"..")?;
     write_count(&mut line, u64::from(span.end))?;
-    line.extend(b": ")?;
-    line.extend(type_words(kind))?;
-    line.push(b'\n')?;
+    write_words(&mut line, type_words(kind))?;
     Ok(line)
 }
 
@@ -51,9 +56,7 @@ fn cell_line(alloc: Global, at: &Coord, kind: FaultKind) -> Result<Bytes, Memory
 {
     let mut line = Bytes::from_slice(alloc, b"error: cell ")?;
     write_place(&mut line, at.as_slice())?;
-    line.extend(b": ")?;
-    line.extend(fault_words(kind))?;
-    line.push(b'\n')?;
+    write_words(&mut line, fault_words(kind))?;
     Ok(line)
 }
 

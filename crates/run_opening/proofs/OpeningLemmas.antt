@@ -1,5 +1,5 @@
 -- One name more is opened.
-use Rattle.std.proofs.Common.{◌≡◌, ◌≢◌, ℕ, zero, suc, ◌+◌, ◌-◌, ◌<◌, ◌≤◌, List, [], ◌∷◌, ◌++◌, length, get_or, take, map, slice_get, All, AllPairs, Option, Some, None, IfSome, IsSomeAnd, inl, inr, refl, sym, ◌∙◌, ap, subst, arith}
+use Rattle.std.proofs.Common.{◌≡◌, ◌≢◌, ℕ, zero, suc, ◌+◌, ◌<◌, ◌≤◌, List, [], ◌∷◌, ◌++◌, length, get_or, take, map, slice_get, All, AllPairs, Option, Some, None, IfSome, IsSomeAnd, Result, Ok, Err, IfErr, ◌⊎◌, inl, inr, refl, sym, ◌∙◌, ap, subst, arith}
 use Rattle.std.specs.List.{AllZip}
 use Rattle.std.proofs.lemmas.Grind.{common_steps}
 use Rattle.std.proofs.lemmas.List.{length-map, map-append, take_more}
@@ -10,7 +10,6 @@ use Rattle.afl_outside.specs.Shelf.{ShelfState, LeavesOthers}
 use Rattle.afl_outside.specs.Sink.{SinkState, IsNewSink}
 use Rattle.afl_outside.specs.Source.{SourceState, IsNewSource}
 use Rattle.run_opening.specs.declared.reports.notices.Notice.{Notice}
-use Rattle.run_opening.specs.declared.reports.notices.Notice.TheVariants as notices
 use Rattle.run_opening.specs.Names.{Word, reply_name}
 use Rattle.run_opening.specs.Opened.{FailsFor, FailsToOpen, HandsOut, HandsOutSome, IsSinkOf, IsSourceOf, IsUnopened, LeavesUnasked, StopsAt}
 use Rattle.run_opening.specs.Inner.Replying.{FailsAtReply, StopsAmong, StopsAmongScripts, StopsAtName}
@@ -274,3 +273,8 @@ module _ (scripts names : List Word) (are : names ≡ map reply_name scripts) (s
 
   pub names_count : length names ≡ length scripts
   names_count = ap length are ∙ length-map scripts reply_name
+
+-- one cause of two
+pub or_second : {A : Type 0} (r : Result A Notice) (P Q : Notice → Type 0) → IfErr r Q → IfErr r (λ notice. P notice ⊎ Q notice)
+or_second (Ok a) P Q told = tt
+or_second (Err notice) P Q told = inr told

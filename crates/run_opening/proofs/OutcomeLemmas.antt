@@ -1,8 +1,9 @@
 -- What a notice tells of the sessions that it is told of.
-use Rattle.std.proofs.Common.{◌≡◌, ◌⊎◌, ℕ, zero, suc, ◌<◌, ◌≤◌, Bool, true, false, ◌||◌, IsTrue, List, [], ◌∷◌, length, get_or, position, Option, None, Some, All, Any, inl, inr, refl, sym, ◌∙◌, ap, subst, arith}
+use Rattle.std.proofs.Common.{◌≡◌, ◌⊎◌, ℕ, zero, suc, ◌+◌, ◌<◌, ◌≤◌, Bool, true, false, ◌||◌, IsTrue, List, [], ◌∷◌, length, get_or, drop, position, Option, None, Some, All, Any, inl, inr, refl, sym, ◌∙◌, ap, subst, arith}
 use Rattle.std.specs.List.{list_any, position_or_len}
 use Rattle.std.specs.Option.{option_or}
 use Rattle.std.proofs.lemmas.Grind.{common_steps}
+use Rattle.std.proofs.lemmas.List.{drop_all, drop_more}
 use Rattle.std.proofs.lemmas.List.Folds.{Any-from_list_any}
 use Rattle.std.proofs.lemmas.List.Quantifiers.{position-Some}
 use Rattle.std.proofs.lemmas.List.Sums.{fails_before_first}
@@ -45,6 +46,22 @@ is_told false false (Some n) session refused = refl
 is_told false false None (Some n) refused = refl
 is_told false false None None true = (quiet, refl)
 is_told false false None None false = (quiet, refl)
+
+-- ---- notices that tell of a refusal or of a stream
+
+abbrev IsRefusal : Notice → Type 0
+IsRefusal Refused = Unit {0}
+IsRefusal _ = ⊥
+
+pub as_refusal : (notice : Notice) → notice ≡ Refused → IsRefusal notice
+as_refusal notice is = subst IsRefusal (sym is) tt
+
+abbrev IsOfStream : Notice → Type 0
+IsOfStream (Stream session) = Unit {0}
+IsOfStream _ = ⊥
+
+pub as_stream : (notice : Notice) (session : ℕ) → notice ≡ Stream session → IsOfStream notice
+as_stream notice session is = subst IsOfStream (sym is) tt
 
 -- ---- of one reply and of one session
 
@@ -112,6 +129,21 @@ some_gives f (x ∷ xs) y is = elim (from_either (f x) (first_by f xs) y is) [
   | inl here ↦ any_first (λ x. f x ≡ Some y) x xs here
   | inr later ↦ any_later (λ x. f x ≡ Some y) x xs (some_gives f xs y later)
 ]
+
+-- ---- a loop looks for what f gives first
+
+module _ {X Y : Type 0} (f : X → Option Y) (xs : List X) (i : ℕ) (so_far : first_by f xs ≡ first_by f (drop i xs)) where
+  next_first : (x : X) → i < length xs → x ≡ get_or xs i x → first_by f xs ≡ option_or (f x) (first_by f (drop (i + 1) xs))
+  next_first x within is = so_far ∙ ap (first_by f) (drop_more xs i x within ∙ ap (λ (y : X). y ∷ drop (i + 1) xs) (sym is))
+
+  pub first_past : (x : X) → i < length xs → x ≡ get_or xs i x → None ≡ f x → first_by f xs ≡ first_by f (drop (i + 1) xs)
+  first_past x within is none = next_first x within is ∙ ap (λ (o : Option Y). option_or o (first_by f (drop (i + 1) xs))) (sym none)
+
+  pub first_here : (x : X) (y : Y) → i < length xs → x ≡ get_or xs i x → Some y ≡ f x → Some y ≡ first_by f xs
+  first_here x y within is found = sym (next_first x within is ∙ ap (λ (o : Option Y). option_or o (first_by f (drop (i + 1) xs))) (sym found))
+
+  pub first_nowhere : length xs ≤ i → None ≡ first_by f xs
+  first_nowhere end = sym (so_far ∙ ap (first_by f) (drop_all i xs end))
 
 all_accepted : (marks : List Mark) → list_any (λ m. is_want m.refusal) marks ≡ false → list_any (λ m. is_fault m.refusal) marks ≡ false → damage_in marks ≡ None
     → list_any (λ m. is_refusal m.refusal) marks ≡ false → All (λ m. m.refusal ≡ None) marks

@@ -1,6 +1,8 @@
 -- The streams of sessions are put together.
-use Rattle.std.proofs.Common.{◌≡◌, suc, ◌+◌, List, [], ◌∷◌, ◌++◌, length, map, remove, slice_get, Some, refl, sym, ◌∙◌, ap, arith, append_assoc}
+use Rattle.std.proofs.Common.{◌≡◌, ℕ, suc, ◌+◌, ◌<◌, ◌≤◌, ◌==◌, Bool, true, false, List, [], ◌∷◌, ◌++◌, length, map, take, get_or, remove, slice_get, Some, refl, sym, ◌∙◌, ap, subst, arith, append_assoc, append-nil, length-append}
 use Rattle.std.specs.List.{AllByRecursion, AllZip}
+use Rattle.std.proofs.lemmas.Bool.Decides.{nat_tests}
+use Rattle.std.proofs.lemmas.List.{map-append, take_more}
 use Rattle.afl_lexer.specs.Inner.Standing.{Splitting, StandsAfter}
 use Rattle.afl_outside.specs.Source.{SourceState}
 use Rattle.afl_outside.specs.Sink.{SinkState}
@@ -31,6 +33,54 @@ joins_one {S} {K} done more (a ∷ xs) xs' (b ∷ ys) ys' (c ∷ zs) zs' x y z f
     ap (λ (l : List (Streams S K)). l ++ streams_of xs' ys' zs') (grown ∙ ap (λ (s : Streams S K). done ++ s ∷ []) one)
     ∙ ap (λ (l : List (Streams S K)). (done ++ joined a b c ∷ []) ++ l) rest
     ∙ append_assoc done (joined a b c ∷ []) (streams_of xs ys zs)
+
+-- none is left
+pub joins_all : {S K : Type 0} (done whole : List (Streams S K)) (xs : List S) (ys : List K) (zs : List Splitting) → length xs ≡ 0
+    → done ++ streams_of xs ys zs ≡ whole → done ≡ whole
+joins_all done whole [] ys zs none joined = sym (append-nil done) ∙ joined
+joins_all done whole (x ∷ xs) ys zs none joined = absurd (omega (arith, none))
+
+-- what was made for one more is added at the end
+pub mapped_more : {A B : Type 0} (f : A → B) (xs : List A) (i : ℕ) (x : A) (y : B) (before after : List B) → i < length xs → x ≡ get_or xs i x → y ≡ f x
+    → before ≡ map f (take i xs) → after ≡ before ++ y ∷ [] → after ≡ map f (take (i + 1) xs)
+mapped_more f xs i x y before after within is made so_far grown =
+    grown ∙ ap (λ l. l ++ y ∷ []) so_far ∙ ap (λ z. map f (take i xs) ++ z ∷ []) (made ∙ ap f is)
+    ∙ sym (ap (map f) (take_more xs i x within) ∙ map-append f (take i xs) (get_or xs i x ∷ []))
+
+all_with : {A : Type 0} (P : A → Type 0) (xs : List A) (x : A) → AllByRecursion P xs → P x → AllByRecursion P (xs ++ x ∷ [])
+all_with P [] x all this = (this, tt)
+all_with P (y ∷ xs) x all this = (all.0, all_with P xs x all.1 this)
+
+pub all_more : {A : Type 0} (P : A → Type 0) (xs ys : List A) (x : A) → ys ≡ xs ++ x ∷ [] → AllByRecursion P xs → P x → AllByRecursion P ys
+all_more P xs ys x grown all this = subst (AllByRecursion P) (sym grown) (all_with P xs x all this)
+
+pub count_more : {A : Type 0} (xs ys : List A) (x : A) (n : ℕ) → ys ≡ xs ++ x ∷ [] → length xs ≡ n → length ys ≡ n + 1
+count_more xs ys x n grown count = ap length grown ∙ length-append xs (x ∷ []) ∙ ap (λ k. k + 1) count
+
+-- ---- the firsts of lists that are as long are taken away
+
+pub some_left : (len n : ℕ) (empty : Bool) → empty ≡ (len == 0) → empty ≡ false → len ≡ n → 1 ≤ n
+some_left len n empty is full same = grind (arith, nat_tests)
+
+pub none_left : (len n : ℕ) (empty : Bool) → empty ≡ (len == 0) → empty ≡ true → len ≡ n → n ≡ 0
+none_left len n empty is all same = grind (arith, nat_tests)
+
+pub first_there : {A : Type 0} (xs : List A) (x : A) → 1 ≤ length xs → x ≡ get_or xs 0 x → slice_get xs 0 ≡ Some x
+first_there [] x some is = absurd (omega (arith, some))
+first_there (y ∷ xs) x some is = ap Some (sym is)
+
+pub still_as_many : {A B : Type 0} (xs xs' : List A) (ys ys' : List B) → xs' ≡ remove xs 0 → ys' ≡ remove ys 0 → 1 ≤ length xs → length ys ≡ length xs
+    → length ys' ≡ length xs'
+still_as_many [] xs' ys ys' fewer less some same = absurd (omega (arith, some))
+still_as_many (x ∷ xs) xs' [] ys' fewer less some same = absurd (omega (arith, same))
+still_as_many (x ∷ xs) xs' (y ∷ ys) ys' fewer less some same =
+    ap length less ∙ (let n : ℕ = length xs in let m : ℕ = length ys in let g : m ≡ n = omega (arith, same) in g) ∙ sym (ap length fewer)
+
+pub still_room : {A B : Type 0} (done more : List A) (j : A) (xs xs' : List B) (room room' : ℕ) → more ≡ done ++ j ∷ [] → xs' ≡ remove xs 0 → 1 ≤ length xs
+    → room' ≡ room → length done + length xs ≤ room → length more + length xs' ≤ room'
+still_room done more j [] xs' room room' grown fewer some same fits = absurd (omega (arith, some))
+still_room done more j (x ∷ xs) xs' room room' grown fewer some same fits =
+    omega (arith, count_more done more j (length done) grown refl, ap length fewer, same, fits)
 
 -- the streams of scripts and their replies
 pub opened_for : {S K : Type 0} (source_state : S → SourceState) (sink_state : K → SinkState) (shelf : ShelfState) (scripts : List Word) (sources : List S) (sinks : List K) (splitters : List Splitting)

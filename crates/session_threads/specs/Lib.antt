@@ -4,7 +4,7 @@ pub use Rattle.afl_session.specs.Marked
 pub use Rattle.afl_session.specs.Replies
 pub use Rattle.afl_session.specs.Session
 pub use Rattle.afl_session.specs.Style
-pub use Rattle.afl_session.specs.declared.replies.reply.Reply
+pub use Rattle.afl_session.specs.Reply
 pub use Rattle.snapshot_manager.specs.Told
 pub mod Inner
 pub mod Sessions

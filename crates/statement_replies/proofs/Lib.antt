@@ -1,6 +1,7 @@
 pub mod Answering
 mod AnswersWorked
 pub mod Asking
+pub mod Causes
 pub mod Lines
 pub mod Listed
 pub mod Offers

@@ -1,6 +1,7 @@
 -- Changes that are offered or refused.
-use Rattle.std.proofs.Common.{◌≡◌, inr, Option, Some, Ok, IfSome, refl, sym, ap, subst, ◌∙◌}
+use Rattle.std.proofs.Common.{◌≡◌, inr, ℕ, List, Option, Some, Ok, Err, IfSome, refl, sym, ap, subst, ◌∙◌}
 use Rattle.cell_values.specs.declared.datum.Broken.{Broken}
+use Rattle.cell_values.specs.declared.schema.Schema.{Schema}
 use Rattle.array_geom.specs.declared.chunk.Changed.{Changed}
 use Rattle.logical_plan.specs.declared.names.Names.{Names}
 use Rattle.plan_changes.specs.declared.change.Change.{Change}
@@ -22,13 +23,24 @@ use Rattle.statement_replies.specs.declared.replies.replies.Reply.{Reply}
 use Rattle.statement_replies.specs.declared.replies.style.Style.{Style}
 use Rattle.statement_replies.specs.declared.answers.outcome.Offer.{Offer}
 use Rattle.statement_replies.specs.declared.answers.outcome.Outcome.TheVariants.{Replied}
-use Rattle.statement_replies.specs.Inner.Made.{HasChunks, HasPlan, IsMadeIn, outcome_with}
+use Rattle.statement_replies.specs.Inner.Made.{HasChunks, HasPlan, IsMadeIn, IsPutUnder, outcome_with}
 use Rattle.statement_replies.specs.Outcomes.{HasOutcomeKind, IsMadeOf, IsOutcomeOf, IsToldBy}
 
 -- ---- the chunks of a change
 
 pub some_made : (db : Database) (change : Change) (changed : Changed) → IsAnswerOver db change (Ok changed) → IsMadeIn db change (Ok (Some changed))
 some_made db change changed is = record { stores = is.stores; whole = is.answer.fault; chunks = is.answer }
+
+-- what a change that puts a version may come to
+pub put_plan : (name : List ℕ) (schema : Schema) (change : Change) → IsPutUnder name schema change → HasPlan change
+put_plan name schema (Create other shape) put = put
+put_plan name schema (Store other shape plan) put = tt
+put_plan name schema (Insert other shape plan) put = tt
+put_plan name schema (Remove other) put = put
+put_plan name schema (RemoveVersions other below) put = put
+
+pub broken_made : (db : Database) (change : Change) (broken : Broken) → IsAnswerOver db change (Err broken) → IsMadeIn db change (Err broken)
+broken_made db change broken is = is.answer
 
 -- ---- an offer
 

@@ -3,6 +3,7 @@ pub mod Keeping
 pub mod Noted
 pub mod Notes
 pub mod Opened
+pub mod Parts
 pub mod Pins
 pub mod Told
 pub mod Tried

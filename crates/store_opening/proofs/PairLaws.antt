@@ -1,6 +1,6 @@
 -- Two lists that are gone over together.
-use Rattle.std.proofs.Common.{◌≡◌, ◌<◌, ◌≤◌, ℕ, ◌+◌, List, [], ◌∷◌, ◌++◌, length, drop, get_or, refl, sym, ◌∙◌, ap, append_assoc, append-nil, arith}
-use Rattle.std.proofs.lemmas.List.{drop_more, drop_all}
+use Rattle.std.proofs.Common.{◌≡◌, ◌<◌, ◌≤◌, ℕ, ◌+◌, List, [], ◌∷◌, ◌++◌, length, map, take, drop, get_or, refl, sym, ◌∙◌, ap, append_assoc, append-nil, arith}
+use Rattle.std.proofs.lemmas.List.{drop_more, drop_all, map_more}
 use Rattle.array_rows.specs.Boxes.{by_pairs}
 use Rattle.file_meaning.specs.Opening.{all_of}
 
@@ -60,3 +60,20 @@ pub named_end : {A B C : Type 0} (f : A → B → C) (left xs : List A) (items a
     → done ≡ old ++ by_pairs f xs given
 named_end f left xs items all given done old none is same =
     sym (append-nil done) ∙ sym (ap (λ (zs : List _). done ++ by_pairs f left zs) none ∙ ap (λ (cs : List _). done ++ cs) (pairs_none f left)) ∙ is ∙ ap (λ (zs : List _). old ++ by_pairs f xs zs) same
+
+-- one more item of a list that is gone over alone
+pub one_more : {A B : Type 0} (f : A → B) (xs : List A) (i : ℕ) (x : A) (y : B) (old new : List B) → i < length xs → x ≡ get_or xs i x
+    → old ≡ map f (take i xs) → new ≡ old ++ y ∷ [] → y ≡ f x → new ≡ map f (take (i + 1) xs)
+one_more f xs i x y old new low is so_far pushed same =
+    pushed ∙ ap (λ (l : List _). l ++ y ∷ []) so_far ∙ ap (λ z. map f (take i xs) ++ z ∷ []) (same ∙ ap f is) ∙ sym (map_more f xs i x low)
+
+-- the pair of the first one of a list that is gone over along with another
+pub next_pair : {A B C : Type 0} (f : A → B → C) (x : A) (xs all : List A) (y : B) (ys : List B) (made : C) (done more : List C) → all ≡ x ∷ xs → made ≡ f x y → more ≡ done ++ made ∷ []
+    → more ++ by_pairs f xs ys ≡ done ++ by_pairs f all (y ∷ ys)
+next_pair f x xs all y ys made done more all_is made_is more_is =
+    ap (λ (cs : List _). cs ++ by_pairs f xs ys) more_is ∙ append_assoc done (made ∷ []) (by_pairs f xs ys) ∙ ap (λ z. done ++ z ∷ by_pairs f xs ys) made_is
+    ∙ ap (λ (zs : List _). done ++ by_pairs f zs (y ∷ ys)) (sym all_is)
+
+pub none_to_pair : {A B C : Type 0} (f : A → B → C) (all : List A) (y : B) (ys : List B) (done : List C) → length all ≡ 0 → done ++ by_pairs f all ys ≡ done ++ by_pairs f all (y ∷ ys)
+none_to_pair f [] y ys done none = refl
+none_to_pair f (x ∷ xs) y ys done none = absurd (omega (arith, none))

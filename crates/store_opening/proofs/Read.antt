@@ -5,6 +5,7 @@ use Rattle.afl_outside.specs.Disk.{DiskState, Moment, Only}
 use Rattle.page_chain.specs.Opens.{OpensAs}
 use Rattle.page_chain.specs.declared.fault.OpenCause.{OpenCause}
 use Rattle.page_chain.specs.declared.fault.OpenCause.TheVariants.{Disk, NotDatabase, Memory}
+use Rattle.page_chain.specs.Inner.Runs.{OnlyReads}
 use Rattle.page_chain.specs.Puts.{OnlySyncs}
 use Rattle.page_chain.specs.Standing.{IsSound}
 use Rattle.page_chain.specs.declared.slots.slots.slots.Slots.{Slots}
@@ -32,6 +33,11 @@ pub found_stops : (cause : OpenCause) (tells : Option (List ℕ)) (slots : Slots
 found_stops cause tells slots is =
     if_some (λ (seen : List ℕ). Answers {X = Found} (Err cause) (found_in seen (slots_of slots))) (λ seen. StopsBy (found_in seen (slots_of slots)) cause) tells is
     (λ seen told. stops cause (found_in seen (slots_of slots)) told)
+
+-- a disk that was only read, and is handed back
+pub read_back : {D : Type 0} (moment : D → Moment) (old now back : D) → back ≡ now → OnlyReads (moment old) (moment now) → OnlySyncs (moment old) (moment back)
+read_back {D} moment old now back is reads =
+    subst (λ (d : D). OnlySyncs (moment old) (moment d)) (sym is) (record { same = reads.same; seen = reads.seen; crash = reads.crash; time = reads.time })
 
 -- by its slots the file opens as what is found
 pub opens_so : (file : List ℕ) (slots : Slots) → OpensAs slots.current slots.records file → opened file ≡ found_in file (slots_of slots)

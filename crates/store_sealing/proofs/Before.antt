@@ -1,11 +1,14 @@
 -- A commit is prepared after the note that it is tried.
-use Rattle.std.proofs.Common.{◌≡◌, ◌∙◌, ◌+◌, ◌≤◌, ◌<◌, ◌^◌, ℕ, false, List, length, Option, None, Some, Result, Ok, Err, IfOk, IfSome, OnOk, IsTrue, vec_capacity, refl, sym, ap, subst}
+use Rattle.std.proofs.Common.{◌≡◌, ◌∙◌, ◌+◌, ◌-◌, ◌≤◌, ◌<◌, ◌^◌, ℕ, false, List, length, Option, None, Some, Result, Ok, Err, IfOk, IfSome, OnOk, IsTrue, vec_capacity, refl, sym, ap, subst}
 use Rattle.afl_outside.specs.Disk.{Moment}
 use Rattle.array_geom.specs.declared.chunk.Changed.{Changed}
+use Rattle.std.specs.Option.{is_some}
 use Rattle.plan_changes.specs.declared.change.Change.{Change}
+use Rattle.plan_changes.specs.declared.change.Change.TheVariants.{Create, Store, Insert, Remove, RemoveVersions}
+use Rattle.event_core.specs.Apart.{makes_version}
 use Rattle.event_core.specs.Allowed.{is_pinned}
 use Rattle.prepared_commits.specs.Written.{Written}
-use Rattle.prepared_commits.specs.Changes.{AreValid}
+use Rattle.prepared_commits.specs.Changes.{AreValid, ComesWith}
 use Rattle.prepared_commits.specs.Versions.{CanBeListed, IsWritten, draft, draft_of}
 use Rattle.store_ledger.specs.Ledger.{LedgerState, has_room, history, is_noted, is_tried}
 use Rattle.prepared_commits.specs.StoreParts.{StoreParts}
@@ -18,7 +21,7 @@ use Rattle.prepared_commits.specs.declared.commits.prepared.Prepared.{Prepared}
 use Rattle.prepared_commits.specs.Needs.{needs_by, newest_now, next_sequence}
 use Rattle.prepared_commits.specs.Prepared.{IsAsked, IsPreparedFor}
 use Rattle.prepared_commits.specs.Parts.{IsFullFor, IsPreparedAs, is_short}
-use Rattle.store_sealing.specs.Left.{IsLeft, tried_now}
+use Rattle.store_sealing.specs.Left.{HasNext, IsLeft, tried_now}
 use Rattle.store_sealing.proofs.Noted.{at_tried, none_committed, tried_is_noted, was_tried}
 use Rattle.store_sealing.proofs.Prepares.{IsBefore, IsFor, NeedsAreCosts, prepared_new}
 
@@ -26,6 +29,31 @@ listed_of : (n : ℕ) (changed : Option Changed) → IfSome changed (λ some. Ar
     → IfSome changed (λ some. CanBeListed (length some.schema.dimensions) (draft n some))
 listed_of n None listed valid one = tt
 listed_of n (Some some) listed valid one = listed valid one
+
+-- a change makes a version just where chunks come with it
+comes_as : (change : Change) (changed : Option Changed) → ComesWith change changed → is_some changed ≡ makes_version change
+comes_as (Create name schema) changed none = ap is_some none
+comes_as (Store name schema plan) None none = absurd none
+comes_as (Store name schema plan) (Some changed) of = refl
+comes_as (Insert name schema plan) None none = absurd none
+comes_as (Insert name schema plan) (Some changed) of = refl
+comes_as (Remove name) changed none = ap is_some none
+comes_as (RemoveVersions name below) changed none = ap is_some none
+
+drafted : (n : ℕ) (changed : Option Changed) → is_some (draft_of n changed) ≡ is_some changed
+drafted n None = refl
+drafted n (Some changed) = refl
+
+pub comes_so : (n : ℕ) (change : Change) (changed : Option Changed) (written : Option Written) → written ≡ draft_of n changed → ComesWith change changed
+    → is_some written ≡ makes_version change
+comes_so n change changed written spelled comes = ap is_some spelled ∙ drafted n changed ∙ comes_as change changed comes
+
+-- the end is told only where there is no next sequence number
+pub has_next : {A : Type 0} (sequence needed : ℕ) (r : Result A PrepareFault) (l : LedgerState) → sequence < 2 ^ 64 - 1 → IsFullFor needed r l → HasNext sequence r
+has_next sequence needed (Ok x) l less full = less
+has_next sequence needed (Err SequenceEnd) l less full = absurd full
+has_next sequence needed (Err (Full most free)) l less full = less
+has_next sequence needed (Err Memory) l less full = tt
 
 pub before : {D : Type 0} (moment : D → Moment) (s : Standing D) (k : Keeping) (change : Change) (changed : Option Changed) (session sequence : ℕ) (written : Option Written) (l : LedgerState) → IsAt moment s k
     → IsAsked moment s change changed → sequence ≡ next_sequence s → 1 ≤ sequence → sequence < 2 ^ 64 → IsTrue (is_pinned session (history s.ledger)) → is_noted is_tried s.ledger session ≡ false

@@ -14,7 +14,7 @@ use snapshot_manager::{Seat, Shared};
 use std::alloc::Global;
 use std::sync::Wait;
 use std::thread::Threads;
-use test_quiet::{Answer, SilentDisk, step_of};
+use test_quiet::{Answer, SilentDisk, Step, step_of};
 
 /// A store that three sessions share.
 pub struct Run {
@@ -28,6 +28,35 @@ pub struct Run {
     pub room: Vec<Seat<SilentDisk>>,
 }
 
+/// What a step of one of the sessions is answered.
+fn answer_step<R: Threads + Wait + Sync>(
+    rt: &R,
+    alloc: Global,
+    run: &mut Run,
+    session: &str,
+    step: Step<'_>,
+) -> Answer
+    requires { IsRun run.old }
+    ensures { IsRun run.new }
+{
+    match session {
+        "0" => run.first.answer(rt, alloc, &run.shared, step),
+        "1" => run.second.answer(rt, alloc, &run.shared, step),
+        "2" => run.third.answer(rt, alloc, &run.shared, step),
+        _ => Answer::Unknown,
+    }
+}
+
+fn reaped<R: Wait>(rt: &R, run: &mut Run) -> Answer
+    requires { IsRun run.old }
+    ensures { IsRun run.new }
+{
+    match run.shared.reap(rt, &mut run.reaper) {
+        Ok(comes) => Answer::Reaped(comes),
+        Err(Memory) => Answer::Memory,
+    }
+}
+
 /// What a line is answered, as `pin 0`, `change 0 TEXT` or `reap`, by which all pages become free that nobody can name.
 pub fn answer_line<R: Threads + Wait + Sync>(
     rt: &R,
@@ -39,19 +68,9 @@ pub fn answer_line<R: Threads + Wait + Sync>(
     ensures { IsRun run.new }
 {
     match step_of(line) {
-        Some((session, step)) => match session {
-            "0" => run.first.answer(rt, alloc, &run.shared, step),
-            "1" => run.second.answer(rt, alloc, &run.shared, step),
-            "2" => run.third.answer(rt, alloc, &run.shared, step),
-            _ => Answer::Unknown,
-        },
-        None => match line {
-            "reap" => match run.shared.reap(rt, &mut run.reaper) {
-                Ok(comes) => Answer::Reaped(comes),
-                Err(Memory) => Answer::Memory,
-            },
-            _ => Answer::Unknown,
-        },
+        Some((session, step)) => answer_step(rt, alloc, run, session, step),
+        None if line == "reap" => reaped(rt, run),
+        None => Answer::Unknown,
     }
 }
 

@@ -3,7 +3,7 @@
 use array_store::Store;
 use cell_values::Memory;
 use event_core::{Entry, let_go_entries};
-use test_quiet::SilentDisk;
+use test_quiet::{SilentDisk, push_numbered};
 
 /// How many of the entries are commits of a session.
 fn commits_of(entries: &[Entry], by: u32) -> u64 {
@@ -21,10 +21,11 @@ fn push_tally(out: &mut String, entries: &[Entry], sessions: u32) -> Result<(), 
     let mut all = 0u64;
     for session in 0..sessions {
         let commits = commits_of(entries, session);
-        writeln!(out, "session {session}: {commits} commits")?;
+        push_numbered(out, "session ", u64::from(session), ": ")?;
+        push_numbered(out, "", commits, " commits\n")?;
         all = all.saturating_add(commits);
     }
-    Ok(writeln!(out, "all: {all} commits")?)
+    push_numbered(out, "all: ", all, " commits\n")
 }
 
 /// Ends a store, and adds what its history tells. Its disk is the answer.

@@ -21,6 +21,10 @@ module _ {A : Type 0} where
   pub longer_by_one : (xs : List A) (a : A) (ys : List A) (n : ℕ) → ys ≡ xs ++ a ∷ [] → length xs ≡ n → length ys ≡ n + 1
   longer_by_one xs a ys n e d = ap length e ∙ length-append xs (a ∷ []) ∙ ap (λ k. k + 1) d
 
+  pub one_fewer : (xs : List A) (a : A) (ys : List A) → ys ≡ xs ++ a ∷ [] → length xs < length ys
+  one_fewer xs a ys e = let n : ℕ = length xs in let m : ℕ = length ys in let longer : m ≡ n + 1 = longer_by_one xs a ys (length xs) e (λ _. length xs) in
+      let g : n < m = omega arith in g
+
   -- a fact of each place, for a list with one more at its end
   pub places_more : (P : ℕ → A → Type 0) (xs : List A) (a : A) → ((k : ℕ) (d : A) → k < length xs → P k (get_or xs k d)) → P (length xs) a
       → (k : ℕ) (d : A) → k < length (xs ++ a ∷ []) → P k (get_or (xs ++ a ∷ []) k d)

@@ -1,5 +1,6 @@
 -- A seat's one claim, and the value that is in its slot.
 use Rattle.std.proofs.Common.{◌≡◌, ℕ, ◌+◌, ◌-◌, List, [], ◌∷◌, length, refl, sym, ap, subst, ◌∙◌, arith, Option, Some, None, length-append}
+use Rattle.std.proofs.lemmas.List.{length-map}
 use mathlib.Core.Option.{some}
 use lib.ListN.{get_elem?}
 use Rattle.atomic_table.specs.Table.{Me, Step, rest}
@@ -22,6 +23,9 @@ module _ {E : Type 0} where
   pub renewed_number : (xs : List E) (cs : List (Claim E)) → first_number (claims_seeing xs cs) ≡ first_number cs
   renewed_number xs [] = refl
   renewed_number xs (c ∷ cs) = refl
+
+  pub renewed_length : (xs : List E) (cs : List (Claim E)) → length (claims_seeing xs cs) ≡ length cs
+  renewed_length xs cs = length-map cs (λ c. claim c.number xs)
 
   pub renewed_seen : (xs : List E) (cs : List (Claim E)) → length cs ≡ 1 → first_seen (claims_seeing xs cs) ≡ xs
   renewed_seen xs [] e = absurd (omega arith)

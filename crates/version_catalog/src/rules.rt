@@ -5,3 +5,6 @@ mod catalog_record;
 
 pub use catalog::{BlobAt, Catalog, CatalogArray};
 pub use catalog_record::CatalogRecord;
+pub(crate) use catalog_record::{
+    created_record, cut_record, first_record, next_record, removed_record,
+};

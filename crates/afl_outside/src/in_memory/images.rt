@@ -1,7 +1,8 @@
 //! Images that a stop may leave, by a record of calls.
-ghost use Rattle.std.specs.Prelude.{◌≡◌, ◌≤◌, length, drop, IfOk, OnOk};
+ghost use Rattle.std.specs.Prelude.{◌≡◌, ◌≤◌, ◌∷◌, List, length, drop, IfOk, OnOk};
+ghost use Rattle.afl_outside.specs.declared.in_memory.device_call.DeviceCall.{DeviceCall as ACall};
 ghost use Rattle.afl_outside.specs.Disk.{written};
-ghost use Rattle.afl_outside.specs.Images.{is_pending, synced_count, content_after, left_bytes, with_writes, stopped_image, Leaves};
+ghost use Rattle.afl_outside.specs.Images.{is_pending, synced_count, next_content, content_after, left_bytes, with_writes, stopped_image, Leaves};
 
 use crate::in_memory::device_call::DeviceCall;
 use crate::in_memory::pieces::lay;
@@ -51,11 +52,21 @@ fn replay(content: &mut Vec<u8>, calls: &[DeviceCall]) -> Result<(), Memory>
     ensures { OnOk result (content.new.items ≡ content_after content.old.items calls.now) }
 {
     for call in calls {
-        if let DeviceCall::Write { at, bytes } = call {
-            lay(content, *at, bytes.as_slice())?;
-        }
+        replay_call(content, call)?;
     }
     Ok(())
+}
+
+/// Does what a call writes.
+fn replay_call(content: &mut Vec<u8>, call: &DeviceCall) -> Result<(), Memory>
+    ensures { OnOk result (content.new.items ≡ next_content content.old.items call.now) }
+{
+    match call {
+        DeviceCall::Length => Ok(()),
+        DeviceCall::Read { at: _, length: _ } => Ok(()),
+        DeviceCall::Write { at, bytes } => lay(content, *at, bytes.as_slice()),
+        DeviceCall::Sync { done: _ } => Ok(()),
+    }
 }
 
 /// Does what `kept` and `fill` leave of the writes of these calls.
@@ -69,12 +80,32 @@ fn lay_writes(
 {
     let mut places = kept;
     for call in calls {
-        if let DeviceCall::Write { at, bytes } = call {
-            lay_left(image, *at, bytes.as_slice(), places, fill)?;
-            places = after_first(places);
-        }
+        places = lay_call(image, call, places, fill)?;
     }
     Ok(())
+}
+
+/// Does what `places` and `fill` leave of a call's write, and gives the places of the writes behind it.
+fn lay_call<'a>(
+    image: &mut Vec<u8>,
+    call: &DeviceCall,
+    places: &'a [bool],
+    fill: u8,
+) -> Result<&'a [bool], Memory>
+    ensures { IfOk result (λ rest. (calls : List ACall)
+        → with_writes rest.now fill image.new.items calls ≡ with_writes places.now fill image.old.items (call.now ∷ calls)) }
+{
+    match call {
+        DeviceCall::Length => Ok(places),
+        DeviceCall::Read { at: _, length: _ } => Ok(places),
+        DeviceCall::Write { at, bytes } => {
+            match lay_left(image, *at, bytes.as_slice(), places, fill) {
+                Ok(()) => Ok(after_first(places)),
+                Err(Memory) => Err(Memory),
+            }
+        }
+        DeviceCall::Sync { done: _ } => Ok(places),
+    }
 }
 
 /// Writes the bytes, or as many of one byte where the first place says so.

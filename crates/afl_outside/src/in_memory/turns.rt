@@ -34,6 +34,13 @@ impl FailingCalls {
         }
     }
 
+    /// Whether the next call is one that is to fail.
+    fn lists_next(&self) -> bool
+        ensures { IsTrue result ↔ IsListed self.now }
+    {
+        self.fails.as_slice().contains(&self.calls)
+    }
+
     /// Counts a call, and says whether it is to fail.
     pub(crate) fn fails_next(&mut self) -> bool
         ensures listed { IsTrue result ↔ IsListed self.old }
@@ -41,7 +48,7 @@ impl FailingCalls {
         ensures later { self.old.faults ≤ self.new.faults }
         ensures passed { OnFalse result (self.new ≡ passed self.old) }
     {
-        let is_listed = self.fails.as_slice().contains(&self.calls);
+        let is_listed = self.lists_next();
         self.calls = self.calls.saturating_add(1);
         if is_listed {
             self.faults = self.faults.saturating_add(1);

@@ -5,7 +5,7 @@ use Rattle.afl_lexer.specs.Inner.Standing.{Splitting, StandsAfter}
 use Rattle.afl_outside.specs.Counts.{Rose}
 use Rattle.afl_outside.specs.Sink.{SinkState, Takes}
 use Rattle.store_state.specs.declared.state.event.Event.{Event}
-use Rattle.afl_session.specs.declared.replies.reply.Reply.{Reply}
+use Rattle.session_answers.specs.declared.replies.reply.Reply.{Reply}
 use Rattle.afl_session.specs.Session.{AnswerRule, AnswersAll, AnswersFront, LeavesOne, Replies}
 use Rattle.run_opening.specs.declared.reports.reports.Mark.{Mark}
 use Rattle.afl_session.specs.declared.scripts.streams.Stopped.{Stopped}

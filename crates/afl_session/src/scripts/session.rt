@@ -8,11 +8,11 @@ ghost use Rattle.afl_session.specs.Session.{Serves};
 
 use crate::scripts::statements::answer_statement;
 use crate::scripts::streams::Stopped;
-use crate::turns::Options;
 use afl_lexer::{SplitStep, Splitter};
 use afl_outside::{Disk, Failed, Gate, Sink, Source};
 use cell_values::List;
 use run_opening::{Mark, SessionEnd, SessionReport};
+use session_answers::Options;
 use snapshot_manager::{Seat, Shared};
 use std::alloc::Global;
 use std::sync::Wait;

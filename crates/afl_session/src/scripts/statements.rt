@@ -7,13 +7,11 @@ ghost use Rattle.afl_session.specs.Inner.Serving.{GoesOn, mark_at, reached, stat
 ghost use Rattle.afl_session.specs.Marked.{AnswersText, IsMarked, IsReplyOf, IsTooLongReply, written_for};
 ghost use Rattle.run_opening.specs.Outcomes.{is_want};
 
-use crate::answers::answer;
-use crate::replies::{Reply, refusal_or_want};
 use crate::scripts::streams::{Stopped, write_whole};
-use crate::turns::Options;
 use afl_outside::{Disk, Gate, Sink};
 use result_print::Refusal;
 use run_opening::Mark;
+use session_answers::{Options, Reply, answer, refusal_or_want};
 use snapshot_manager::{Seat, Shared};
 use std::alloc::{AllocError, Global};
 use std::sync::Wait;

@@ -3,6 +3,7 @@ ghost use Rattle.std.specs.Prelude.{◌≡◌};
 ghost use Rattle.std.specs.Str.{bytes_eq};
 ghost use Rattle.check_rules.specs.Operators.{query_named, change_named, operator_named, form_named, name_span};
 
+use afl_lexer::if_spelled;
 use cell_values::{Name, Span};
 
 /// An operator: what a call gives an array, changes arrays, or lists something.
@@ -55,37 +56,22 @@ pub enum OneForm {
 fn query_named(name: &[u8]) -> Option<Operator>
     ensures { result ≡ query_named name.now }
 {
-    if name == b"build".as_slice() {
-        Some(Operator::Build)
-    } else if name == b"scan".as_slice() {
-        Some(Operator::Scan)
-    } else if name == b"filter".as_slice() {
-        Some(Operator::Filter)
-    } else if name == b"apply".as_slice() {
-        Some(Operator::Apply)
-    } else if name == b"project".as_slice() {
-        Some(Operator::Project)
-    } else if name == b"between".as_slice() {
-        Some(Operator::Between)
-    } else if name == b"subarray".as_slice() {
-        Some(Operator::Subarray)
-    } else if name == b"slice".as_slice() {
-        Some(Operator::Slice)
-    } else if name == b"join".as_slice() {
-        Some(Operator::Join)
-    } else if name == b"cross_join".as_slice() {
-        Some(Operator::CrossJoin)
-    } else if name == b"redimension".as_slice() {
-        Some(Operator::Redimension)
-    } else if name == b"regrid".as_slice() {
-        Some(Operator::Regrid)
-    } else if name == b"window".as_slice() {
-        Some(Operator::Window)
-    } else if name == b"aggregate".as_slice() {
-        Some(Operator::Aggregate)
-    } else {
-        None
-    }
+    let found = None;
+    let found = if_spelled(name, b"aggregate", Operator::Aggregate, found);
+    let found = if_spelled(name, b"window", Operator::Window, found);
+    let found = if_spelled(name, b"regrid", Operator::Regrid, found);
+    let found = if_spelled(name, b"redimension", Operator::Redimension, found);
+    let found = if_spelled(name, b"cross_join", Operator::CrossJoin, found);
+    let found = if_spelled(name, b"join", Operator::Join, found);
+    let found = if_spelled(name, b"slice", Operator::Slice, found);
+    let found = if_spelled(name, b"subarray", Operator::Subarray, found);
+    let found = if_spelled(name, b"between", Operator::Between, found);
+    let found = if_spelled(name, b"project", Operator::Project, found);
+    let found = if_spelled(name, b"apply", Operator::Apply, found);
+    let found = if_spelled(name, b"filter", Operator::Filter, found);
+    let found = if_spelled(name, b"scan", Operator::Scan, found);
+    let found = if_spelled(name, b"build", Operator::Build, found);
+    found
 }
 
 /// The operator of this name that changes arrays or lists something.
@@ -93,23 +79,15 @@ fn query_named(name: &[u8]) -> Option<Operator>
 fn change_named(name: &[u8]) -> Option<Operator>
     ensures { result ≡ change_named name.now }
 {
-    if name == b"store".as_slice() {
-        Some(Operator::Store)
-    } else if name == b"insert".as_slice() {
-        Some(Operator::Insert)
-    } else if name == b"remove".as_slice() {
-        Some(Operator::Remove)
-    } else if name == b"remove_versions".as_slice() {
-        Some(Operator::RemoveVersions)
-    } else if name == b"versions".as_slice() {
-        Some(Operator::Versions)
-    } else if name == b"show".as_slice() {
-        Some(Operator::Show)
-    } else if name == b"list".as_slice() {
-        Some(Operator::ListNames)
-    } else {
-        None
-    }
+    let found = None;
+    let found = if_spelled(name, b"list", Operator::ListNames, found);
+    let found = if_spelled(name, b"show", Operator::Show, found);
+    let found = if_spelled(name, b"versions", Operator::Versions, found);
+    let found = if_spelled(name, b"remove_versions", Operator::RemoveVersions, found);
+    let found = if_spelled(name, b"remove", Operator::Remove, found);
+    let found = if_spelled(name, b"insert", Operator::Insert, found);
+    let found = if_spelled(name, b"store", Operator::Store, found);
+    found
 }
 
 /// The operator of this name.
@@ -127,21 +105,14 @@ pub fn operator_named(name: &[u8]) -> Option<Operator>
 pub fn form_named(name: &[u8]) -> Option<Form>
     ensures { result ≡ form_named name.now }
 {
-    if name == b"iif".as_slice() {
-        Some(Form::Iif)
-    } else if name == b"is_null".as_slice() {
-        Some(Form::One(OneForm::IsNull))
-    } else if name == b"strlen".as_slice() {
-        Some(Form::One(OneForm::StrLen))
-    } else if name == b"string".as_slice() {
-        Some(Form::One(OneForm::ToText))
-    } else if name == b"missing".as_slice() {
-        Some(Form::One(OneForm::Missing))
-    } else if name == b"missing_reason".as_slice() {
-        Some(Form::One(OneForm::Reason))
-    } else {
-        None
-    }
+    let found = None;
+    let found = if_spelled(name, b"missing_reason", Form::One(OneForm::Reason), found);
+    let found = if_spelled(name, b"missing", Form::One(OneForm::Missing), found);
+    let found = if_spelled(name, b"string", Form::One(OneForm::ToText), found);
+    let found = if_spelled(name, b"strlen", Form::One(OneForm::StrLen), found);
+    let found = if_spelled(name, b"is_null", Form::One(OneForm::IsNull), found);
+    let found = if_spelled(name, b"iif", Form::Iif, found);
+    found
 }
 
 /// The place of a call's name.

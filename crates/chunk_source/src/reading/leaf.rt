@@ -16,7 +16,7 @@ use cell_values::{ChunkAt, List};
 use logical_plan::Leaf;
 
 /// Reads these chunks of a leaf.
-fn read_chunks<S: ChunkSource>(
+pub(crate) fn read_chunks<S: ChunkSource>(
     source: &mut S,
     number: u32,
     leaf: &Leaf,

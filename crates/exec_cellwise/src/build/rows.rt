@@ -3,3 +3,4 @@
 mod build;
 
 pub use build::built_rows;
+pub(crate) use build::{count_of, fitted, number_at};

@@ -25,8 +25,9 @@ fn merge_states(left: List<AggState>, right: List<AggState>) -> Result<List<AggS
         Some(state) => match right.pop() {
             None => Ok(right),
             Some(other) => {
+                let united = state.merge(other);
                 let mut states = merge_states(left, right)?;
-                states.push(state.merge(other))?;
+                states.push(united)?;
                 Ok(states)
             }
         },

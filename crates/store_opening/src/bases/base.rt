@@ -1,5 +1,5 @@
 //! The base of a found file.
-ghost use Rattle.std.specs.Prelude.{◌≡◌, ◌++◌, [], ◌∷◌, not, List, IfOk, OnOk};
+ghost use Rattle.std.specs.Prelude.{◌≡◌, ◌++◌, [], ◌∷◌, ℕ, not, List, IfOk, OnOk};
 ghost use Rattle.std.specs.List.{filter, flat_map};
 ghost use Rattle.array_rows.specs.Boxes.{by_pairs};
 ghost use Rattle.version_catalog.specs.declared.rules.catalog.BlobAt.{BlobAt as ABlobAt};
@@ -110,6 +110,32 @@ fn named(name: &Name, version: u32, pages: List<u32>) -> Result<VersionPages, Me
     }
 }
 
+/// Adds the pages of the version whose number is the first one left, and answers the numbers behind it.
+fn push_version<'a>(
+    versions: &mut List<VersionPages>,
+    name: &Name,
+    left: &'a [u32],
+    pages: List<u32>,
+) -> Result<&'a [u32], Memory>
+    ensures { IfOk result (λ rest. (lists : List (List ℕ))
+        → versions.new ++ by_pairs (pages_named name.now) rest.now lists
+        ≡ versions.old ++ by_pairs (pages_named name.now) left.now (pages ∷ lists)) }
+{
+    match left.split_first() {
+        Some((number, rest)) => match named(name, *number, pages) {
+            Ok(version) => match versions.push(version) {
+                Ok(()) => Ok(rest),
+                Err(want) => Err(want),
+            },
+            Err(want) => Err(want),
+        },
+        None => {
+            drop(pages);
+            Ok(left)
+        }
+    }
+}
+
 /// Adds the pages of an array's versions, each under its name.
 fn push_named(
     versions: &mut List<VersionPages>,
@@ -121,10 +147,7 @@ fn push_named(
 {
     let mut left = numbers;
     for pages in lists.into_vec() {
-        if let [number, rest @ ..] = left {
-            versions.push(named(name, *number, pages)?)?;
-            left = rest;
-        }
+        left = push_version(versions, name, left, pages)?;
     }
     Ok(())
 }

@@ -28,10 +28,10 @@ fn push_head(
     between: &str,
     number: u32,
 ) -> Result<(), Memory> {
-    text.extend(before.as_bytes())?;
-    text.extend(entry.name.as_slice())?;
     let tail = format!(in text.allocator(); "{between}{number}\n")?;
-    text.extend(tail.as_bytes())
+    text.extend(before.as_bytes())
+        .and(text.extend(entry.name.as_slice()))
+        .and(text.extend(tail.as_bytes()))
 }
 
 /// Adds a version's name, and then its cells.

@@ -15,7 +15,9 @@ use std::alloc::Global;
 use std::mem::replace;
 use std::thread::Threads;
 use test_kit::name_of;
-use test_quiet::{Answer, Hold, QuietDisk, Step, Watch, named_leaf, pair_of, step_of};
+use test_quiet::{
+    Answer, Hold, QuietDisk, Step, Watch, named_leaf, pair_of, push_numbered, step_of,
+};
 
 /// A store, and what two sessions have of it.
 pub struct SessionPair {
@@ -221,7 +223,9 @@ pub fn push_counts(out: &mut String, pair: &mut SessionPair) -> Result<(), Memor
     ensures { IsPair pair.new }
 {
     let free = pair.store.free_pages();
-    let entries = pair.store.history().len();
+    let entries = pair.store.history().len() as u64;
     let notes = pair.store.notes();
-    Ok(writeln!(out, "{free} pages free, {entries} entries, {notes} notes")?)
+    push_numbered(out, "", u64::from(free), " pages free, ")
+        .and(push_numbered(out, "", entries, " entries, "))
+        .and(push_numbered(out, "", notes, " notes\n"))
 }

@@ -5,7 +5,7 @@ ghost use Rattle.file_items.specs.Items.{IsRead, repeat};
 ghost use Rattle.plan_changes.specs.Stored.{is_before};
 ghost use Rattle.version_catalog.specs.Spelling.{versions_at};
 ghost use Rattle.version_catalog.specs.Table.{blob_at, is_version, version_at, next_version, number_in, numbered_at, content_at};
-ghost use Rattle.version_catalog.specs.Table.{items_at, is_next_name, array_at, next_array, name_in, last_name, catalog_in};
+ghost use Rattle.version_catalog.specs.Table.{is_next_name, array_at, next_array, name_in, last_name, catalog_in};
 
 use crate::rules::{BlobAt, Catalog, CatalogArray};
 use file_items::{List, Name, Stop, name, pages, positive, schema, u32_at};
@@ -17,9 +17,13 @@ use std::alloc::Global;
 pub(crate) fn blob(alloc: Global, bytes: &[u8]) -> Result<(BlobAt, &[u8]), Stop>
     ensures { IsRead (λ x. (x.0, x.1.now)) result (blob_at bytes.now) }
 {
-    let (length, rest) = positive(bytes)?;
-    let (pages, rest) = pages(alloc, length, rest)?;
-    Ok((BlobAt { length, pages }, rest))
+    match positive(bytes) {
+        Ok((length, rest)) => match pages(alloc, length, rest) {
+            Ok((pages, rest)) => Ok((BlobAt { length, pages }, rest)),
+            Err(stop) => Err(stop),
+        },
+        Err(stop) => Err(stop),
+    }
 }
 
 /// A version above one and below the next one, and its directory.
@@ -27,12 +31,17 @@ pub(crate) fn blob(alloc: Global, bytes: &[u8]) -> Result<(BlobAt, &[u8]), Stop>
 fn version(alloc: Global, next: u32, last: u32, bytes: &[u8]) -> Result<(u32, BlobAt, &[u8]), Stop>
     ensures { IsRead (λ x. (record { number = x.0; directory = x.1 }, x.2.now)) result (version_at next last bytes.now) }
 {
-    let (number, rest) = u32_at(bytes)?;
+    let (number, rest) = match u32_at(bytes) {
+        Ok(read) => read,
+        Err(stop) => return Err(stop),
+    };
     if !(last < number && number < next) {
         return Err(Stop::Left(bytes.len()));
     }
-    let (directory, rest) = blob(alloc, rest)?;
-    Ok((number, directory, rest))
+    match blob(alloc, rest) {
+        Ok((directory, rest)) => Ok((number, directory, rest)),
+        Err(stop) => Err(stop),
+    }
 }
 
 fn versions(
@@ -49,11 +58,15 @@ fn versions(
     let mut last = 0;
     let mut rest = bytes;
     for _index in 0..count {
-        let (number, directory, after) = version(alloc, next, last, rest)?;
-        numbers.push(number)?;
-        directories.push(directory)?;
-        last = number;
-        rest = after;
+        match version(alloc, next, last, rest) {
+            Ok((number, directory, after)) => {
+                numbers.push(number)?;
+                directories.push(directory)?;
+                last = number;
+                rest = after;
+            }
+            Err(stop) => return Err(stop),
+        }
     }
     Ok((numbers, directories, rest))
 }
@@ -64,13 +77,21 @@ fn numbered(alloc: Global, bytes: &[u8]) -> Result<(u32, List<u32>, List<BlobAt>
     ensures read { IsRead (λ x. (record { next = x.0; versions = versions_at x.1 x.2 }, x.3.now)) result (numbered_at bytes.now) }
     ensures one_each { IfOk result (λ x. length x.2 ≡ length x.1) }
 {
-    let (next, rest) = u32_at(bytes)?;
+    let (next, rest) = match u32_at(bytes) {
+        Ok(read) => read,
+        Err(stop) => return Err(stop),
+    };
     if !(1 <= next && next <= 65536) {
         return Err(Stop::Left(bytes.len()));
     }
-    let (count, rest) = u32_at(rest)?;
-    let (numbers, directories, rest) = versions(alloc, next, count, rest)?;
-    Ok((next, numbers, directories, rest))
+    let (count, rest) = match u32_at(rest) {
+        Ok(read) => read,
+        Err(stop) => return Err(stop),
+    };
+    match versions(alloc, next, count, rest) {
+        Ok((numbers, directories, rest)) => Ok((next, numbers, directories, rest)),
+        Err(stop) => Err(stop),
+    }
 }
 
 /// The name of the last array.
@@ -102,19 +123,29 @@ fn array<'a>(
 ) -> Result<(CatalogArray, &'a [u8]), Stop>
     ensures { IsRead (λ x. (x.0, x.1.now)) result (array_at (option_copied before.entry) bytes.now) }
 {
-    let (name, rest) = name(alloc, bytes)?;
-    if !is_next_name(before, &name) {
-        return Err(Stop::Left(bytes.len()));
+    match name(alloc, bytes) {
+        Ok((name, rest)) => {
+            if !is_next_name(before, &name) {
+                return Err(Stop::Left(bytes.len()));
+            }
+            match schema(alloc, rest) {
+                Ok((schema, rest)) => match numbered(alloc, rest) {
+                    Ok((next, versions, directories, rest)) => {
+                        let entry = NameEntry {
+                            name,
+                            schema,
+                            next,
+                            versions,
+                        };
+                        Ok((CatalogArray { entry, directories }, rest))
+                    }
+                    Err(stop) => Err(stop),
+                },
+                Err(stop) => Err(stop),
+            }
+        }
+        Err(stop) => Err(stop),
     }
-    let (schema, rest) = schema(alloc, rest)?;
-    let (next, versions, directories, rest) = numbered(alloc, rest)?;
-    let entry = NameEntry {
-        name,
-        schema,
-        next,
-        versions,
-    };
-    Ok((CatalogArray { entry, directories }, rest))
 }
 
 fn arrays(alloc: Global, count: u32, bytes: &[u8]) -> Result<(List<CatalogArray>, &[u8]), Stop>
@@ -123,9 +154,13 @@ fn arrays(alloc: Global, count: u32, bytes: &[u8]) -> Result<(List<CatalogArray>
     let mut arrays = List::new(alloc);
     let mut rest = bytes;
     for _index in 0..count {
-        let (array, after) = array(alloc, last_name(&arrays), rest)?;
-        arrays.push(array)?;
-        rest = after;
+        match array(alloc, last_name(&arrays), rest) {
+            Ok((array, after)) => {
+                arrays.push(array)?;
+                rest = after;
+            }
+            Err(stop) => return Err(stop),
+        }
     }
     Ok((arrays, rest))
 }
@@ -135,13 +170,21 @@ fn arrays(alloc: Global, count: u32, bytes: &[u8]) -> Result<(List<CatalogArray>
 pub(crate) fn catalog(alloc: Global, bytes: &[u8]) -> Result<Catalog, Stop>
     ensures { IsRead (λ x. x) result (catalog_in bytes.now) }
 {
-    let (count, rest) = u32_at(bytes)?;
+    let (count, rest) = match u32_at(bytes) {
+        Ok(read) => read,
+        Err(stop) => return Err(stop),
+    };
     if 1024 < count {
         return Err(Stop::Left(bytes.len()));
     }
-    let (arrays, rest) = arrays(alloc, count, rest)?;
-    if !rest.is_empty() {
-        return Err(Stop::Left(rest.len()));
+    match arrays(alloc, count, rest) {
+        Ok((arrays, rest)) => {
+            if rest.is_empty() {
+                Ok(Catalog { arrays })
+            } else {
+                Err(Stop::Left(rest.len()))
+            }
+        }
+        Err(stop) => Err(stop),
     }
-    Ok(Catalog { arrays })
 }

@@ -2,12 +2,12 @@
 ghost use Rattle.std.specs.Prelude.{◌≡◌, Some, IfOk, IsTrue};
 ghost use Rattle.plan_changes.specs.Allowed.{names_allow};
 ghost use Rattle.version_catalog.specs.Catalogs.{names_in};
-ghost use Rattle.version_catalog.specs.declared.rules.catalog_record.CatalogRecord.TheVariants.{Create, First, Next, Remove, RemoveVersions};
 ghost use Rattle.version_catalog.specs.Records.{entries_of, allows, is_allowed, recorded, after_record};
 ghost use Rattle.version_catalog.specs.Changed.{stored_by, record_for, has_its_directory, after_change};
 
 use crate::changing::arrays::{from_version, with_directory, with_first, with_new, without};
 use crate::changing::rules::has_array;
+use crate::rules::{created_record, cut_record, first_record, next_record, removed_record};
 use crate::{BlobAt, Catalog, CatalogArray, CatalogRecord};
 use cell_values::{List, Memory, Name, Schema};
 use plan_changes::Change;
@@ -39,34 +39,6 @@ pub fn with_record(catalog: &Catalog, entry: &CatalogRecord) -> Result<Catalog, 
     Ok(Catalog { arrays })
 }
 
-fn created_record(name: &Name, schema: &Schema) -> Result<CatalogRecord, Memory>
-    ensures { IfOk result (λ entry. entry ≡ Create name.now schema.now) }
-{
-    Ok(CatalogRecord::Create {
-        name: name.copy()?,
-        schema: schema.copy()?,
-    })
-}
-
-fn first_record(name: &Name, schema: &Schema, directory: BlobAt) -> Result<CatalogRecord, Memory>
-    ensures { IfOk result (λ entry. entry ≡ First name.now schema.now directory) }
-{
-    Ok(CatalogRecord::First {
-        name: name.copy()?,
-        schema: schema.copy()?,
-        directory,
-    })
-}
-
-fn next_record(name: &Name, directory: BlobAt) -> Result<CatalogRecord, Memory>
-    ensures { IfOk result (λ entry. entry ≡ Next name.now directory) }
-{
-    Ok(CatalogRecord::Next {
-        name: name.copy()?,
-        directory,
-    })
-}
-
 /// The record of a new version of an array that stands, or of a new one.
 fn stored(
     catalog: &Catalog,
@@ -81,21 +53,6 @@ fn stored(
     } else {
         first_record(name, schema, directory)
     }
-}
-
-fn removed_record(name: &Name) -> Result<CatalogRecord, Memory>
-    ensures { IfOk result (λ entry. entry ≡ Remove name.now) }
-{
-    Ok(CatalogRecord::Remove { name: name.copy()? })
-}
-
-fn cut_record(name: &Name, below: u32) -> Result<CatalogRecord, Memory>
-    ensures { IfOk result (λ entry. entry ≡ RemoveVersions name.now below) }
-{
-    Ok(CatalogRecord::RemoveVersions {
-        name: name.copy()?,
-        below,
-    })
 }
 
 /// The record of a change with its directory.

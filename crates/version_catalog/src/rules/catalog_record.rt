@@ -1,5 +1,6 @@
 //! Records of a catalogue's changes.
 ghost use Rattle.std.specs.Prelude.{◌≡◌, IfOk};
+ghost use Rattle.version_catalog.specs.declared.rules.catalog_record.CatalogRecord.TheVariants.{Create, First, Next, Remove, RemoveVersions};
 
 use crate::rules::BlobAt;
 use file_items::{Copies, Memory, Name, Schema};
@@ -34,34 +35,80 @@ pub enum CatalogRecord {
     },
 }
 
+pub(crate) fn created_record(name: &Name, schema: &Schema) -> Result<CatalogRecord, Memory>
+    ensures { IfOk result (λ entry. entry ≡ Create name.now schema.now) }
+{
+    Ok(CatalogRecord::Create {
+        name: name.copy()?,
+        schema: schema.copy()?,
+    })
+}
+
+pub(crate) fn first_record(
+    name: &Name,
+    schema: &Schema,
+    directory: BlobAt,
+) -> Result<CatalogRecord, Memory>
+    ensures { IfOk result (λ entry. entry ≡ First name.now schema.now directory) }
+{
+    Ok(CatalogRecord::First {
+        name: name.copy()?,
+        schema: schema.copy()?,
+        directory,
+    })
+}
+
+pub(crate) fn next_record(name: &Name, directory: BlobAt) -> Result<CatalogRecord, Memory>
+    ensures { IfOk result (λ entry. entry ≡ Next name.now directory) }
+{
+    Ok(CatalogRecord::Next {
+        name: name.copy()?,
+        directory,
+    })
+}
+
+pub(crate) fn removed_record(name: &Name) -> Result<CatalogRecord, Memory>
+    ensures { IfOk result (λ entry. entry ≡ Remove name.now) }
+{
+    Ok(CatalogRecord::Remove { name: name.copy()? })
+}
+
+pub(crate) fn cut_record(name: &Name, below: u32) -> Result<CatalogRecord, Memory>
+    ensures { IfOk result (λ entry. entry ≡ RemoveVersions name.now below) }
+{
+    Ok(CatalogRecord::RemoveVersions {
+        name: name.copy()?,
+        below,
+    })
+}
+
+fn first_copy(name: &Name, schema: &Schema, directory: &BlobAt) -> Result<CatalogRecord, Memory>
+    ensures { IfOk result (λ entry. entry ≡ First name.now schema.now directory.now) }
+{
+    first_record(name, schema, directory.copy()?)
+}
+
+fn next_copy(name: &Name, directory: &BlobAt) -> Result<CatalogRecord, Memory>
+    ensures { IfOk result (λ entry. entry ≡ Next name.now directory.now) }
+{
+    next_record(name, directory.copy()?)
+}
+
 impl CatalogRecord {
     /// An equal record.
     pub fn copy(&self) -> Result<CatalogRecord, Memory>
         ensures { IfOk result (λ copy. copy ≡ self.now) }
     {
         match self {
-            CatalogRecord::Create { name, schema } => Ok(CatalogRecord::Create {
-                name: name.copy()?,
-                schema: schema.copy()?,
-            }),
+            CatalogRecord::Create { name, schema } => created_record(name, schema),
             CatalogRecord::First {
                 name,
                 schema,
                 directory,
-            } => Ok(CatalogRecord::First {
-                name: name.copy()?,
-                schema: schema.copy()?,
-                directory: directory.copy()?,
-            }),
-            CatalogRecord::Next { name, directory } => Ok(CatalogRecord::Next {
-                name: name.copy()?,
-                directory: directory.copy()?,
-            }),
-            CatalogRecord::Remove { name } => Ok(CatalogRecord::Remove { name: name.copy()? }),
-            CatalogRecord::RemoveVersions { name, below } => Ok(CatalogRecord::RemoveVersions {
-                name: name.copy()?,
-                below: *below,
-            }),
+            } => first_copy(name, schema, directory),
+            CatalogRecord::Next { name, directory } => next_copy(name, directory),
+            CatalogRecord::Remove { name } => removed_record(name),
+            CatalogRecord::RemoveVersions { name, below } => cut_record(name, *below),
         }
     }
 }

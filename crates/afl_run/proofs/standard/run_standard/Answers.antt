@@ -1,16 +1,22 @@
-use Rattle.std.proofs.Common.{◌≡◌, ◌⊎◌, ℕ, List, Option, None, length, refl, subst}
+use Rattle.std.proofs.Common.{◌≡◌, ◌≤◌, ◌⊎◌, ℕ, List, Option, None, length, refl, sym, ap, subst, ◌∙◌, lit≤}
 use Rattle.afl_outside.specs.Shelf.{ShelfState}
 use Rattle.afl_outside.specs.Inner.Records.{SureBytes, sure_disk_moment}
 use Rattle.event_core.specs.declared.entry.Entry.{Entry}
 use Rattle.run_opening.specs.Names.{Word, stream_names}
-use Rattle.run_opening.specs.Opened.{AreOpenedFor, FailsToOpen, HandsOut, HandsOutSome, LeavesUnasked, StopsAt}
+use Rattle.run_opening.specs.Opened.{AreOpenedFor, FailsToOpen, HandsOut, HandsOutSome, IsOpenedFor, LeavesUnasked, StopsAt}
 use Rattle.run_opening.specs.declared.reports.notices.Notice.{Notice}
 use Rattle.run_opening.specs.declared.reports.notices.Notice.TheVariants.{Memory}
 use Rattle.run_opening.specs.declared.reports.reports.SessionReport.{SessionReport}
 use Rattle.afl_run.specs.Run.{RunsTry}
 use Rattle.afl_run.proofs.StandardLemmas.{tries_nothing, tries_ran}
-use Rattle.afl_run.proofs.StreamsLemmas.{begun, fails_or_memory, reported}
+use Rattle.afl_run.proofs.StreamsLemmas.{begun, fails_or_memory, reported, zip_length}
 use Rattle.afl_run.proofs.standard.run_standard.Goals as goal
+
+pub run_over-run-requires-clause-count : goal.run_over-run-requires-clause-count
+run_over-run-requires-clause-count g c κs within =
+    let opened = IsOpenedFor g.F.S.Source.state g.F.K.Sink.state (g.F.Shelf.state c.args.shelf) in
+    subst (λ (n : ℕ). (1 ≤ n) × (n ≤ 16)) (sym (zip_length opened c.args.names.now c.in-Ok.streams c.in-Ok.ensures.opened ∙ ap length c.requires.name))
+    (lit≤ tt, lit≤ tt)
 
 pub run_over-run-requires-clause-begun : goal.run_over-run-requires-clause-begun
 run_over-run-requires-clause-begun g c κs within =

@@ -1,6 +1,6 @@
 use Rattle.std.proofs.Common.{◌≡◌, ◌+◌, ◌∷◌, length, rules, arith}
 use Rattle.std.proofs.lemmas.Grind.{common_steps}
-use Rattle.area_cells.proofs.CountLaws.{counted_more}
+use Rattle.area_cells.proofs.CountLaws.{all_few, counted_more}
 use Rattle.area_cells.proofs.counting.are_few.Goals as goal
 
 pub loop-chunk-preserved : goal.loop-chunk-preserved
@@ -8,3 +8,6 @@ loop-chunk-preserved c =
     let rest : c.loop-chunk.rest.now ≡ c.in-Some.chunk.now ∷ c.in-Some.further.now = first_of (search rules, grind (arith, common_steps)) in
     let more : c.in-Some-checked_add.more ≡ c.loop-chunk.count + length c.in-Some.chunk.now.cells = first_of (search rules, grind (arith, common_steps)) in
     counted_more c.loop-chunk.count c.in-Some-checked_add.more c.in-Some.chunk.now c.loop-chunk.rest.now c.in-Some.further.now c.args.chunks.now rest more c.loop-chunk.invariant
+
+pub returns : goal.returns
+returns c small = all_few c.loop-chunk.count c.loop-chunk.rest.now c.args.chunks.now small c.in_default.ensures.cases c.loop-chunk.invariant

@@ -3,10 +3,16 @@ use Rattle.cell_values.specs.declared.datum.Row.{Row}
 use Rattle.cell_values.specs.declared.datum.Cell.TheVariants.{Full}
 use Rattle.array_rows.specs.Inner.CellsIn.{cells_in}
 use Rattle.array_parts.specs.Made.{IsMadeBy}
-use Rattle.array_parts.proofs.Steps.{next_at, done}
+use Rattle.array_parts.proofs.Steps.{begins, next_at, done}
 use Rattle.area_cells.specs.Cut.{cell_inside}
 use Rattle.area_cells.proofs.CutLaws.{cut_is_within}
 use Rattle.area_cells.proofs.cutting.cut_chunk.Goals as goal
+
+pub loop-k-init : goal.loop-k-init
+loop-k-init c =
+    begins (cell_inside c.args.area.now) c.args.schema.now.dimensions c.args.margins.now.items c.grid_of-grid.result.low.items c.grid_of-grid.result.lengths.items c.args.chunk.now _
+    c.as_slice-places.result.now (cells_in c.form-form.result.now) c.grid_of-grid.ensures.lengths c.requires.placed c.copy_numbers.ensures c.another.ensures c.another-2.ensures
+    c.as_slice-places.ensures c.form-form.ensures
 
 pub loop-k-preserved : goal.loop-k-preserved
 loop-k-preserved c =

@@ -34,3 +34,30 @@ typed_one-returns-in_default t c =
     let other : length c.args.operands.now ≡ 1 → ⊥ = λ e. grind arith in
     let is : made ≡ refused c.args.span WrongCount = other_for_one c.args.attributes.now c.args.dimensions.now c.args.span c.args.name.now c.args.form c.args.operands.now other in
     subst (λ (fault : TypeFault). Answers {A = Operand} (Err fault) made) (sym c.broken.ensures) is
+
+pub typed_minus-typed-requires : goal.typed_minus-typed-requires
+typed_minus-typed-requires t c = (omega arith, (c.requires.attributes, c.requires.dimensions))
+
+pub typed_not-typed-requires : goal.typed_not-typed-requires
+typed_not-typed-requires t c = (omega arith, (c.requires.attributes, c.requires.dimensions))
+
+pub typed_group-typed-requires : goal.typed_group-typed-requires
+typed_group-typed-requires t c = (omega arith, (c.requires.attributes, c.requires.dimensions))
+
+pub typed_operand-typed-requires : goal.typed_operand-typed-requires
+typed_operand-typed-requires t c = (omega arith, (c.requires.attributes, c.requires.dimensions))
+
+pub typed_binary-typed-requires : goal.typed_binary-typed-requires
+typed_binary-typed-requires t c = (omega arith, (c.requires.attributes, c.requires.dimensions))
+
+pub typed_binary-typed-requires-2 : goal.typed_binary-typed-requires-2
+typed_binary-typed-requires-2 t c = (omega arith, (c.requires.attributes, c.requires.dimensions))
+
+pub typed_choice-typed-requires : goal.typed_choice-typed-requires
+typed_choice-typed-requires t c = (omega arith, (c.requires.attributes, c.requires.dimensions))
+
+pub typed_choice-typed-requires-2 : goal.typed_choice-typed-requires-2
+typed_choice-typed-requires-2 t c = (omega arith, (c.requires.attributes, c.requires.dimensions))
+
+pub typed_choice-typed-requires-in-Ok : goal.typed_choice-typed-requires-in-Ok
+typed_choice-typed-requires-in-Ok t c = (omega arith, (c.requires.attributes, c.requires.dimensions))

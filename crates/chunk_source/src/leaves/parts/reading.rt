@@ -1,44 +1,20 @@
 //! Leaves, read for a box.
-ghost use Rattle.std.specs.Prelude.{◌≡◌, ◌++◌, map, IfOk, OnOk, OnErr, IsTrue};
-ghost use Rattle.std.specs.List.{AllByRecursion, AllZip};
+ghost use Rattle.std.specs.Prelude.{◌≡◌, ◌++◌, map, IfOk, OnOk, OnErr};
 ghost use Rattle.cell_values.specs.Schemas.{IsValid};
 ghost use Rattle.logical_plan.specs.Meaning.{Database};
 ghost use Rattle.plan_needs.specs.Wanted.{wanted_of};
-ghost use Rattle.chunk_source.specs.Source.{Reads, listed, is_among, IsStored, IsChunkIn, Keeps, AsksFront, asks};
+ghost use Rattle.chunk_source.specs.Source.{Reads, listed, Keeps, AsksFront, asks};
 ghost use Rattle.chunk_source.specs.Faults.{Answers};
 ghost use Rattle.chunk_source.specs.Known.{IsPartIn};
 ghost use Rattle.chunk_source.specs.Read.{IsRead};
 
 use crate::leaves::parts::arrays::{part_array, stand_alone};
+use crate::reading::read_chunks;
 use crate::{ChunkSource, ExecFault};
-use array_geom::{Chunk, ChunkedArray, chunks_meeting};
-use cell_values::{Bounds, ChunkAt, List};
+use array_geom::{ChunkedArray, chunks_meeting};
+use cell_values::Bounds;
 use logical_plan::Leaf;
 use std::alloc::Global;
-
-/// Reads these chunks of a leaf.
-fn read_chunks<S: ChunkSource>(
-    source: &mut S,
-    number: u32,
-    leaf: &Leaf,
-    chunks: &[ChunkAt],
-) -> Result<List<Chunk>, ExecFault>
-    requires reads { Reads (S.state source.old) leaf.now }
-    requires listed { AllByRecursion (λ at. IsTrue (is_among at (listed (S.state source.old) leaf.now))) chunks.now }
-    ensures stored { IfOk result (AllZip (IsStored leaf.now.schema) chunks.now) }
-    ensures told { IfOk result (λ read. (db : Database) → (S.state source.old).tells db → AllByRecursion (IsChunkIn db leaf.now) read) }
-    ensures asked { OnOk result ((S.state source.new).asked ≡ (S.state source.old).asked ++ map (asks number) chunks.now) }
-    ensures front { OnErr result (AsksFront (map (asks number) chunks.now) (S.state source.old) (S.state source.new)) }
-    ensures kept { Keeps (S.state source.old) (S.state source.new) }
-    ensures cause { Answers (S.state source.old) (S.state source.new) result }
-    ensures start { S.start source.new ≡ S.start source.old }
-{
-    let mut read = leaf.schema.dimensions.another();
-    for at in chunks {
-        read.push(source.chunk(number, leaf, at)?)?;
-    }
-    Ok(read)
-}
 
 /// The array of a leaf, which has this number in its plan, as far as its chunks tell whose cores meet a box. Each of these is asked
 /// for once, in the order in which they are listed, and no other.

@@ -1,5 +1,5 @@
 //! The cells of a box in a chunk's frame.
-ghost use Rattle.std.specs.Prelude.{◌≡◌, ℕ, ℤ, ◌+◌, ◌≤◌, ◌<◌, ◌^◌, ◌+ℤ◌, ◌≤ℤ◌, pos, true, List as Items, [], ◌∷◌, ◌++◌, length, IsTrue, IfOk, OnOk};
+ghost use Rattle.std.specs.Prelude.{◌≡◌, ℕ, ℤ, ◌+◌, ◌≤◌, ◌<◌, ◌≤ℤ◌, true, List as Items, [], ◌∷◌, ◌++◌, length, IsTrue, IfOk, OnOk};
 ghost use Rattle.cell_values.specs.declared.datum.Cell.TheVariants.{Full};
 ghost use Rattle.cell_values.specs.declared.datum.Datum.TheVariants.{Int};
 ghost use Rattle.array_rows.specs.Boxes.{is_between};
@@ -7,61 +7,17 @@ ghost use Rattle.array_rows.specs.Rows.{Coordinate};
 ghost use Rattle.array_geom.specs.Geometry.{position_in};
 ghost use Rattle.array_geom.specs.Inner.Ranges.{IsGrid, is_in_grid};
 ghost use Rattle.expr_nulls.specs.ExprValue.{value_of};
-ghost use Rattle.logical_plan.specs.CellOps.{fit_value, fit_values};
-ghost use Rattle.logical_plan.specs.Meaning.{how_many};
+ghost use Rattle.logical_plan.specs.CellOps.{fit_values};
 ghost use Rattle.exec_cellwise.specs.Inner.Rows.{built_row};
 ghost use Rattle.exec_cellwise.specs.Inner.Walks.{TakesRows, rows_between};
 
 use crate::build::chunks::quickly::number_of;
+use crate::build::rows::{count_of, fitted, number_at};
 use array_geom::{Chunk, Grid};
-use cell_values::{Attribute, Coord, Datum, FaultKind, Memory, copy_coord};
+use cell_values::{Attribute, Coord, Datum, Memory, copy_coord};
 use expr_nulls::{TypedExpr, eval};
 use std::alloc::Global;
 use std::slice::from_ref;
-
-/// How many numbers there are from `lo` to `hi`. No memory holds a cell for each of 2^63 and more.
-fn count_of(lo: i64, hi: i64) -> Result<u64, Memory>
-    ensures value { IfOk result (λ count. count ≡ how_many lo hi) }
-    ensures few { IfOk result (λ count. count ≤ 2 ^ 63) }
-{
-    if hi < lo {
-        return Ok(0);
-    }
-    match hi.checked_sub(lo) {
-        Some(last) => Ok(last as u64 + 1),
-        None => Err(Memory),
-    }
-}
-
-/// The number that so many others from `lo` on come before.
-fn number_at(lo: i64, hi: i64, offset: u64) -> i64
-    requires within { offset < how_many lo hi }
-    requires few { how_many lo hi ≤ 2 ^ 63 }
-    ensures { result ≡ lo +ℤ pos offset }
-{
-    lo + offset as i64
-}
-
-/// The value, or a fault in place of a null in an attribute that has none.
-fn fit_value(attribute: &Attribute, value: Datum) -> Datum
-    ensures { result ≡ fit_value attribute.now value }
-{
-    if value.is_null() && !attribute.nullable {
-        Datum::Bad(FaultKind::NullInNotNull)
-    } else {
-        value
-    }
-}
-
-/// The value, or a fault in place of a null in a first attribute that has none.
-fn fitted(attributes: &[Attribute], value: Datum) -> Datum
-    ensures { result ∷ [] ≡ fit_values attributes.now (value ∷ []) }
-{
-    match attributes {
-        [] => value,
-        [first, ..] => fit_value(first, value),
-    }
-}
 
 fn computed_value(
     alloc: Global,

@@ -72,8 +72,8 @@ fn add_along(
     Ok(())
 }
 
-/// How many numbers there are from `lo` to `hi`. No memory holds a row for each of 2^63 and more.
-fn count_of(lo: i64, hi: i64) -> Result<u64, Memory>
+/// How many numbers there are from `lo` to `hi`. No memory holds a cell for each of 2^63 and more.
+pub(crate) fn count_of(lo: i64, hi: i64) -> Result<u64, Memory>
     ensures value { IfOk result (λ count. count ≡ how_many lo hi) }
     ensures few { IfOk result (λ count. count ≤ 2 ^ 63) }
 {
@@ -87,7 +87,7 @@ fn count_of(lo: i64, hi: i64) -> Result<u64, Memory>
 }
 
 /// The number that so many others from `lo` on come before.
-fn number_at(lo: i64, hi: i64, offset: u64) -> i64
+pub(crate) fn number_at(lo: i64, hi: i64, offset: u64) -> i64
     requires within { offset < how_many lo hi }
     requires few { how_many lo hi ≤ 2 ^ 63 }
     ensures { result ≡ lo +ℤ pos offset }
@@ -113,7 +113,7 @@ fn row_at(
 }
 
 /// The value, or a fault in place of a null in a first attribute that has none.
-fn fitted(attributes: &[Attribute], value: Datum) -> Datum
+pub(crate) fn fitted(attributes: &[Attribute], value: Datum) -> Datum
     ensures { result ∷ [] ≡ fit_values attributes.now (value ∷ []) }
 {
     match attributes {

@@ -1,11 +1,33 @@
-use Rattle.std.proofs.Common.{◌≡◌, ◌<◌, ◌≤◌, ◌∙◌, ℕ, ◌+◌, List, [], length, get_or, Ok, Err, sym, ap, subst, arith, length-append}
-use Rattle.page_chain.proofs.RunLemmas.{reads_on}
+use Rattle.std.proofs.Common.{◌≡◌, ◌<◌, ◌≤◌, ◌∙◌, ℕ, ◌+◌, List, [], length, get_or, Ok, Err, refl, sym, ap, subst, arith, length-append}
+use Rattle.std.specs.List.{AllByRecursion}
+use Rattle.page_chain.proofs.RunLemmas.{reads_none, reads_on, rose_on, same_fault}
 use Rattle.chunk_map.specs.Spelling.{IsDirectory}
+use Rattle.version_catalog.specs.Catalogs.{IsBlob}
 use Rattle.chunk_map.specs.declared.directory.Directory.{Directory}
 use Rattle.file_reading.specs.Inner.Rows.{ArePaidBeside, IsBeside, entries_of, rules_of}
-use Rattle.file_reading.proofs.BesideLaws.{paid_more}
-use Rattle.file_reading.proofs.RowLaws.{AskedRow, ReadsOne, each_more, row_ends, row_goes, row_stops, zip_ends, zip_goes}
+use Rattle.file_reading.proofs.BesideLaws.{RowGoes, paid_more}
+use Rattle.file_reading.proofs.CatalogLaws.{at_index}
+use Rattle.file_reading.proofs.RowLaws.{AskedRow, GoingRow, ReadsOne, all_rising, each_more, row_begins, row_ends, row_goes, row_stops, zip_begins, zip_ends, zip_goes}
 use Rattle.file_reading.proofs.directories.read_row.Goals as goal
+
+pub read_version-requires-clause-blob : goal.read_version-requires-clause-blob
+read_version-requires-clause-blob g c =
+    let array = c.args.array.now in
+    let i = c.loop-at.at-index in
+    let at = c.at-item.result in
+    let low : i < length array.directories = omega (arith, c.loop-at-test.true, ap length c.as_slice-at-items.ensures) in
+    let is : at ≡ get_or array.directories i at = rw c.as_slice-at-items.ensures at c.at-item.is in
+    at_index IsBlob array.directories i at low is c.requires.blobs.blobs
+
+pub read_version-requires-clause-rising : goal.read_version-requires-clause-rising
+read_version-requires-clause-rising g c =
+    all_rising (length c.args.array.now.entry.schema.dimensions) c.loop-at.row c.as_slice.result.now c.as_slice.ensures c.loop-at.invariant.each
+
+pub returns-in-Err-clause-reads : goal.returns-in-Err-clause-reads
+returns-in-Err-clause-reads g c = reads_on _ _ _ _ _ _ _ _ _ c.loop-at.invariant.reads c.in-Err.ensures.reads
+
+pub returns-in-Err-clause-fault : goal.returns-in-Err-clause-fault
+returns-in-Err-clause-fault g c = λ is. rose_on _ _ _ c.loop-at.invariant.reads.same.later (c.in-Err.ensures.fault (same_fault _ _ is))
 
 pub returns-in-Err-clause-exact : goal.returns-in-Err-clause-exact
 returns-in-Err-clause-exact g c =
@@ -66,3 +88,20 @@ returns-clause-beside g c = λ tells others has.
     let past : length array.directories ≤ c.loop-at.at-index = omega (arith, c.loop-at-test.false, ap length c.as_slice-at-items.ensures) in
     let all = c.loop-at.invariant.beside tells others has in
     (all.taken, zip_ends (IsBeside others array.entry.schema.dimensions) array.directories c.loop-at.at-index c.loop-at.row past all.zipping)
+
+pub loop-at-init : goal.loop-at-init
+loop-at-init g c =
+    let array = c.args.array.now in
+    let dims = array.entry.schema.dimensions in
+    let a : AskedRow = record { rules = rules_of c.args.base.now; dims = dims; blobs = array.directories } in
+    let moment = g.D.Disk.moment c.args.file.now.disk in
+    let none = sym c.new-row.ensures in
+    record {
+      slots = refl;
+      reads = reads_none moment.state _ _ (g.met.D.Disk.only_now c.args.file.now.disk);
+      count = ap length c.new-row.ensures;
+      each = subst (AllByRecursion (IsDirectory (length dims))) none tt;
+      told = subst (λ (row : List Directory). GoingRow a moment.state.seen c.args.taken.now 0 row c.args.taken.now) none (row_begins a moment.state.seen c.args.taken.now);
+      beside = λ tells others has. subst (λ (row : List Directory). RowGoes tells others dims array.directories 0 row c.args.taken.now) none
+          (record { taken = has; before = tt; zipping = zip_begins (IsBeside others dims) array.directories });
+    }

@@ -1,9 +1,10 @@
-use Rattle.std.proofs.Common.{◌≡◌, ◌<◌, ◌≤◌, ◌∙◌, length, get_or, ap, arith}
-use Rattle.page_chain.proofs.RunLemmas.{reads_on}
+use Rattle.std.proofs.Common.{◌≡◌, ◌<◌, ◌≤◌, ◌∙◌, List, length, get_or, refl, sym, ap, subst, arith}
+use Rattle.page_chain.proofs.RunLemmas.{reads_none, reads_on, rose_on, same_fault}
+use Rattle.chunk_map.specs.declared.directory.Directory.{Directory}
 use Rattle.file_reading.specs.Reading.{AreDirectories}
 use Rattle.file_reading.specs.Inner.Rows.{IsRowBeside, rules_of}
-use Rattle.file_reading.proofs.CatalogLaws.{stored_at}
-use Rattle.file_reading.proofs.RowLaws.{rows_end, rows_go, rows_stop, zip_ends, zip_goes}
+use Rattle.file_reading.proofs.CatalogLaws.{blobs_at, stored_at}
+use Rattle.file_reading.proofs.RowLaws.{GoingRows, Zipping, rows_begin, rows_end, rows_go, rows_stop, zip_begins, zip_ends, zip_goes}
 use Rattle.file_reading.proofs.directories.read_rows.Goals as goal
 
 pub read_row-requires-clause-stored : goal.read_row-requires-clause-stored
@@ -14,6 +15,21 @@ read_row-requires-clause-stored g c =
     let low : i < length arrays = omega (arith, c.loop-array-test.true, ap length c.as_slice-array-items.ensures) in
     let is : array ≡ get_or arrays i array = rw c.as_slice-array-items.ensures at c.array-item.is in
     stored_at c.args.catalog.now i array low is c.requires
+
+pub read_row-requires-clause-blobs : goal.read_row-requires-clause-blobs
+read_row-requires-clause-blobs g c =
+    let arrays = c.args.catalog.now.arrays in
+    let i = c.loop-array.array-index in
+    let array = c.array-item.result in
+    let low : i < length arrays = omega (arith, c.loop-array-test.true, ap length c.as_slice-array-items.ensures) in
+    let is : array ≡ get_or arrays i array = rw c.as_slice-array-items.ensures at c.array-item.is in
+    blobs_at c.args.catalog.now i array low is c.requires
+
+pub returns-in-Err-clause-reads : goal.returns-in-Err-clause-reads
+returns-in-Err-clause-reads g c = reads_on _ _ _ _ _ _ _ _ _ c.loop-array.invariant.reads c.in-Err.ensures.reads
+
+pub returns-in-Err-clause-fault : goal.returns-in-Err-clause-fault
+returns-in-Err-clause-fault g c = λ is. rose_on _ _ _ c.loop-array.invariant.reads.same.later (c.in-Err.ensures.fault (same_fault _ _ is))
 
 pub returns-in-Err-clause-exact : goal.returns-in-Err-clause-exact
 returns-in-Err-clause-exact g c =
@@ -63,3 +79,17 @@ returns-clause-beside g c = λ tells others has.
     let arrays = c.args.catalog.now.arrays in
     let past : length arrays ≤ c.loop-array.array-index = omega (arith, c.loop-array-test.false, ap length c.as_slice-array-items.ensures) in
     zip_ends (IsRowBeside others) arrays c.loop-array.array-index c.loop-array.rows past (c.loop-array.invariant.beside tells others has).1
+
+pub loop-array-init : goal.loop-array-init
+loop-array-init g c =
+    let arrays = c.args.catalog.now.arrays in
+    let rules = rules_of c.args.base.now in
+    let moment = g.D.Disk.moment c.args.file.now.disk in
+    let none = sym c.new-rows.ensures in
+    record {
+      slots = refl;
+      reads = reads_none moment.state _ _ (g.met.D.Disk.only_now c.args.file.now.disk);
+      each = subst (Zipping AreDirectories arrays 0) none (zip_begins AreDirectories arrays);
+      beside = λ tells others has. (has, subst (Zipping (IsRowBeside others) arrays 0) none (zip_begins (IsRowBeside others) arrays));
+      told = subst (λ (rows : List (List Directory)). GoingRows rules arrays moment.state.seen c.args.taken.now 0 rows c.args.taken.now) none (rows_begin rules arrays moment.state.seen c.args.taken.now);
+    }

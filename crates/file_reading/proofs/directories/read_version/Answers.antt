@@ -1,4 +1,5 @@
 use Rattle.std.proofs.Common.{◌≡◌, [], None, Err, true, false, sym, ◌∙◌, ap}
+use Rattle.page_chain.proofs.RunLemmas.{ok_no_fault, reads_none, wrong_no_fault}
 use Rattle.page_chain.specs.Pages.{page_size, first_past}
 use Rattle.file_meaning.proofs.Parts.{claimed_there}
 use Rattle.file_reading.specs.Inner.Rows.{entries_of, rules_of}
@@ -43,3 +44,12 @@ returns-then-claim_payloads-clause-beside g c = λ tells others has seen.
     let own = claims_of tells has.0 at.pages c.as_slice.result.now base.first c.claim.result true c.claim.new.set c.as_slice.ensures c.if-not-claim.false (c.claim.ensures tells has.0 base.first has.1) in
     let all = paid_of a own.0 c.in-Ok.directory c.as_slice-in-Ok.result.now c.claim_payloads.result true c.claim_payloads.new.taken c.as_slice-in-Ok.ensures c.if-claim_payloads.true (c.claim_payloads.ensures tells own.0 _ own.2) in
     version_beside a others own.0 all.0 c.in-Ok.directory c.claim_payloads.new.taken has.2 own.1 seen all.1 all.2
+
+pub returns-then-not-claim-clause-reads : goal.returns-then-not-claim-clause-reads
+returns-then-not-claim-clause-reads g c = reads_none (g.D.Disk.moment c.args.file.now.disk).state _ _ (g.met.D.Disk.only_now c.args.file.now.disk)
+
+pub returns-else-claim_payloads-clause-fault : goal.returns-else-claim_payloads-clause-fault
+returns-else-claim_payloads-clause-fault g c = wrong_no_fault c.first_page.result
+
+pub returns-then-claim_payloads-clause-fault : goal.returns-then-claim_payloads-clause-fault
+returns-then-claim_payloads-clause-fault g c = ok_no_fault c.in-Ok.directory _

@@ -1,5 +1,6 @@
 use Rattle.std.proofs.Common.{◌*◌, ℕ, List, replicate}
 use Rattle.std.specs.List.{AllZip}
+use Rattle.page_chain.proofs.RunLemmas.{reads_on}
 use Rattle.file_reading.specs.Inner.Rows.{IsRowBeside}
 use Rattle.file_reading.specs.Inner.Taken.{LeavesBeside}
 use Rattle.file_reading.proofs.BesideLaws.{pages_of_zeros, taken_beside}
@@ -17,3 +18,6 @@ returns-in-Ok-taken_pages-clause-beside g c =
     let has = taken_beside file taken set (c.in-Ok-taken_pages.ensures file (pages_of_zeros count)) in
     if_ok (λ rows. (tells others : List ℕ) → LeavesBeside tells set others → AllZip (IsRowBeside others) arrays rows) (AllZip (IsRowBeside taken) arrays) c.read_rows.result c.read_rows.ensures.beside
     (λ rows beside. beside file taken has)
+
+pub returns-in-Ok-taken_pages-clause-reads : goal.returns-in-Ok-taken_pages-clause-reads
+returns-in-Ok-taken_pages-clause-reads g c = reads_on _ _ _ _ _ _ _ _ _ c.pages.ensures.reads c.read_rows.ensures.reads

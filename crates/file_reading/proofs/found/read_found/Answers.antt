@@ -1,10 +1,13 @@
 use Rattle.std.proofs.Common.{◌∷◌, sym, ◌∙◌, subst}
+use Rattle.page_chain.proofs.RunLemmas.{ok_no_fault, reads_on, wrong_no_fault}
+use Rattle.page_chain.specs.Inner.Runs.{OnlyReads}
 use Rattle.page_chain.specs.declared.slots.slots.slots.Slots.{Slots}
 use Rattle.file_meaning.specs.Opening.{catalogue_pages, stored_pages}
 use Rattle.file_reading.specs.Reading.{slots_of}
 use Rattle.file_reading.specs.Inner.Rows.{AreBeside}
 use Rattle.file_reading.proofs.FrontLaws.{none_stops}
 use Rattle.file_reading.proofs.FoundLaws.{all_told, base_stopped, behind_stopped}
+use Rattle.file_reading.proofs.Steps.{sound_there}
 use Rattle.file_reading.proofs.found.read_found.Goals as goal
 
 pub returns-else-has_front-clause-exact : goal.returns-else-has_front-clause-exact
@@ -41,3 +44,45 @@ pub returns-in-Err-clause-exact : goal.returns-in-Err-clause-exact
 returns-in-Err-clause-exact g c =
     let old = c.args.file.now in
     base_stopped old.slots (g.D.Disk.moment old.disk).state.seen c.in-Err.cause c.in-Err.ensures.exact
+
+pub returns-then-has_front-clause-reads : goal.returns-then-has_front-clause-reads
+returns-then-has_front-clause-reads g c = reads_on _ _ _ _ _ _ _ _ _ c.base_found.ensures.reads c.read_behind.ensures.reads
+
+pub returns-then-has_front-clause-sound : goal.returns-then-has_front-clause-sound
+returns-then-has_front-clause-sound g c = λ seen sound.
+    let old = c.args.file.now in
+    let new = c.read_behind.new.file in
+    let reads : OnlyReads (g.D.Disk.moment old.disk) (g.D.Disk.moment new.disk) = reads_on _ _ _ _ _ _ _ _ _ c.base_found.ensures.reads c.read_behind.ensures.reads in
+    sound_there old.slots new.slots seen (g.D.Disk.moment old.disk).may_leave (g.D.Disk.moment new.disk).may_leave (c.read_behind.ensures.slots ∙ c.base_found.ensures.slots) reads.crash sound
+
+pub returns-else-has_front-clause-reads : goal.returns-else-has_front-clause-reads
+returns-else-has_front-clause-reads g c = reads_on _ _ _ _ _ _ _ _ _ c.base_found.ensures.reads c.read_behind.ensures.reads
+
+pub returns-else-has_front-clause-sound : goal.returns-else-has_front-clause-sound
+returns-else-has_front-clause-sound g c = λ seen sound.
+    let old = c.args.file.now in
+    let new = c.read_behind.new.file in
+    let reads : OnlyReads (g.D.Disk.moment old.disk) (g.D.Disk.moment new.disk) = reads_on _ _ _ _ _ _ _ _ _ c.base_found.ensures.reads c.read_behind.ensures.reads in
+    sound_there old.slots new.slots seen (g.D.Disk.moment old.disk).may_leave (g.D.Disk.moment new.disk).may_leave (c.read_behind.ensures.slots ∙ c.base_found.ensures.slots) reads.crash sound
+
+pub returns-in-Err-read_behind-clause-reads : goal.returns-in-Err-read_behind-clause-reads
+returns-in-Err-read_behind-clause-reads g c = reads_on _ _ _ _ _ _ _ _ _ c.base_found.ensures.reads c.read_behind.ensures.reads
+
+pub returns-in-Err-read_behind-clause-sound : goal.returns-in-Err-read_behind-clause-sound
+returns-in-Err-read_behind-clause-sound g c = λ seen sound.
+    let old = c.args.file.now in
+    let new = c.read_behind.new.file in
+    let reads : OnlyReads (g.D.Disk.moment old.disk) (g.D.Disk.moment new.disk) = reads_on _ _ _ _ _ _ _ _ _ c.base_found.ensures.reads c.read_behind.ensures.reads in
+    sound_there old.slots new.slots seen (g.D.Disk.moment old.disk).may_leave (g.D.Disk.moment new.disk).may_leave (c.read_behind.ensures.slots ∙ c.base_found.ensures.slots) reads.crash sound
+
+pub returns-in-Err-clause-sound : goal.returns-in-Err-clause-sound
+returns-in-Err-clause-sound g c = λ seen sound.
+    let old = c.args.file.now in
+    let new = c.base_found.new.file in
+    sound_there old.slots new.slots seen (g.D.Disk.moment old.disk).may_leave (g.D.Disk.moment new.disk).may_leave c.base_found.ensures.slots c.base_found.ensures.reads.crash sound
+
+pub returns-then-has_front-clause-fault : goal.returns-then-has_front-clause-fault
+returns-then-has_front-clause-fault g c = wrong_no_fault 0
+
+pub returns-else-has_front-clause-fault : goal.returns-else-has_front-clause-fault
+returns-else-has_front-clause-fault g c = ok_no_fault c.read_behind.new.found _

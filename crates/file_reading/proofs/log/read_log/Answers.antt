@@ -1,7 +1,10 @@
 use Rattle.std.proofs.Common.{◌<◌, ◌∙◌, length, Ok, arith}
-use Rattle.page_chain.proofs.RunLemmas.{reads_on}
+use Rattle.page_chain.proofs.RunLemmas.{reads_on, rose_on, same_fault}
 use Rattle.file_reading.proofs.LogLaws.{LogAt, log_goes, log_stops}
 use Rattle.file_reading.proofs.log.read_log.Goals as goal
+
+pub returns-in-Err-clause-fault : goal.returns-in-Err-clause-fault
+returns-in-Err-clause-fault g c = λ is. rose_on _ _ _ c.loop-number.invariant.reads.same.later (c.in-Err.ensures.fault (same_fault _ _ is))
 
 pub returns-in-Err-clause-exact : goal.returns-in-Err-clause-exact
 returns-in-Err-clause-exact g c =
@@ -13,6 +16,9 @@ returns-in-Err-clause-exact g c =
     let low : c.loop-number.number < length first.slots.records = omega arith in
     log_stops first.slots c.loop-number.file.slots (g.D.Disk.moment first.disk).state.seen (g.D.Disk.moment c.loop-number.file.disk).state.seen old set now c.loop-number.number c.in-Err.cause
     (λ seen. Ok (record { pages = now.logged; catalog = now.catalog; taken = now.taken })) so_far.slots so_far.reads.seen low c.in-Err.ensures.exact so_far.told
+
+pub returns-in-Err-clause-reads : goal.returns-in-Err-clause-reads
+returns-in-Err-clause-reads g c = reads_on _ _ _ _ _ _ _ _ _ c.loop-number.invariant.reads c.in-Err.ensures.reads
 
 pub loop-number-preserved : goal.loop-number-preserved
 loop-number-preserved g c =

@@ -1,6 +1,6 @@
 use Rattle.std.proofs.Common.{◌∙◌, ◌-◌, ap}
 use Rattle.snapshot_manager.specs.Seats.{last_place, seen, session_of}
-use Rattle.afl_session.proofs.Kept.{still_none, still_seat}
+use Rattle.session_answers.proofs.Kept.{still_none, still_seat}
 use Rattle.afl_session.proofs.TooLong.{too_long_is}
 use Rattle.afl_session.proofs.scripts.statements.too_long.Goals as goal
 

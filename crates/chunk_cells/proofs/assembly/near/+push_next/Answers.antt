@@ -1,4 +1,5 @@
 use Rattle.std.proofs.Common.{arith, ◌<◌, slice_index_or, sym, ◌∙◌}
+use Rattle.chunk_cells.proofs.NearFronts.{next_kept}
 use Rattle.chunk_cells.proofs.NextLaws.{lower_first}
 use Rattle.chunk_cells.proofs.assembly.near.+push_next.Goals as goal
 
@@ -8,3 +9,8 @@ overflow_add-k t c =
     lower_first c.args.high.now c.args.chunk.now (omega arith) (omega arith) c.requires.not_after (sym c.is_past.ensures ∙ c.if-is_past.true) in
     let fits = c.type_inv.high 0 in
     omega arith
+
+pub returns-else-is_past : goal.returns-else-is_past
+returns-else-is_past t c =
+    next_kept c.args.low.now c.args.high.now c.args.chunk.now c.args.out.now.items _ _ c.in-len1-up.len_at_least c.in-len1-up-high.len_at_least
+    c.in-len1-up-chunk.len_at_least c.if-k-l.false (sym c.is_past.ensures ∙ c.if-is_past.false) c.push-else-is_past.ensures.items c.push_next.ensures

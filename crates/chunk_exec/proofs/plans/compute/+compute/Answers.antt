@@ -1,10 +1,12 @@
-use Rattle.std.proofs.Common.{◌+◌, ◌<◌, ◌≤◌, drop, length, rules, arith}
+use Rattle.std.proofs.Common.{◌+◌, ◌<◌, ◌≤◌, ◌∙◌, List, ap, drop, length, sym, rules, arith}
+use Rattle.logical_plan.specs.declared.parts.Leaf.{Leaf}
 use Rattle.logical_plan.specs.Leaves.{leaves}
 use Rattle.logical_plan.specs.Query.{query_size}
 use Rattle.chunk_source.proofs.ReadLemmas.{keeps_on, on_err}
 use Rattle.chunk_exec.specs.Computed.{CanCompute}
+use Rattle.chunk_exec.specs.Inner.Parts.{plans_in}
 use Rattle.chunk_exec.proofs.ComputedLaws.{can_left, can_right, can_source, computed_one, computed_two, count_two, enough_for_both, enough_for_one, enough_for_right, front_both, front_left, front_made, front_one, front_right}
-use Rattle.chunk_exec.proofs.SourceLaws.{left_is_smaller, right_is_smaller, source_is_smaller}
+use Rattle.chunk_exec.proofs.SourceLaws.{can_operate_one, can_operate_two, leaves_of_one, left_is_smaller, right_is_smaller, source_is_smaller}
 use Rattle.chunk_exec.proofs.plans.compute.+compute.Goals as goal
 
 pub over_one-compute-requires : goal.over_one-compute-requires
@@ -87,3 +89,32 @@ over_two-returns-in_err-right-clause-kept g t c =
 pub over_two-returns-in_err-of_two-clause-kept : goal.over_two-returns-in_err-of_two-clause-kept
 over_two-returns-in_err-of_two-clause-kept g t c =
     keeps_on (g.S.ChunkSource.state c.args.source.now) (g.S.ChunkSource.state c.compute.new.source) (g.S.ChunkSource.state c.compute-2.new.source) c.in_ok-left.ensures.kept c.in_ok-right.ensures.kept
+
+pub over_one-returns-clause-next : goal.over_one-returns-clause-next
+over_one-returns-clause-next g t c =
+    c.in_ok-array.ensures.next
+    ∙ ap (λ (z : List Leaf). c.args.next.now + length z) (sym (leaves_of_one c.args.plan.now c.args.from.now c.requires.from))
+
+pub over_one-of_one-requires-after_bounds : goal.over_one-of_one-requires-after_bounds
+over_one-of_one-requires-after_bounds g t c κs within =
+    let made = c.in_ok-array.ensures.computed in
+    can_operate_one c.args.plan.now c.args.from.now c.in_ok-array.array c.requires.from c.requires.can.typed made.schema_is made.cells
+
+pub over_two-of_two-requires-after_bounds : goal.over_two-of_two-requires-after_bounds
+over_two-of_two-requires-after_bounds g t c κs within =
+    let left = c.in_ok-left.ensures.computed in
+    let right = c.in_ok-right.ensures.computed in
+    can_operate_two c.args.plan.now c.args.left.now c.args.right.now c.in_ok-left.left c.in_ok-right.right c.requires.both c.requires.can.typed left.schema_is
+    right.schema_is left.cells right.cells
+
+pub over_two-returns-clause-start : goal.over_two-returns-clause-start
+over_two-returns-clause-start g t c = c.in_ok-right.ensures.start ∙ c.in_ok-left.ensures.start
+
+pub over_two-returns-in_err-right-clause-start : goal.over_two-returns-in_err-right-clause-start
+over_two-returns-in_err-right-clause-start g t c = c.in_err-right.ensures.start ∙ c.in_ok-left.ensures.start
+
+pub over_two-returns-in_err-of_two-clause-start : goal.over_two-returns-in_err-of_two-clause-start
+over_two-returns-in_err-of_two-clause-start g t c = c.in_ok-right.ensures.start ∙ c.in_ok-left.ensures.start
+
+pub compute-given_array-requires-clause-given : goal.compute-given_array-requires-clause-given
+compute-given_array-requires-clause-given g t c = sym c.sources_of.ensures ∙ ap plans_in c.in-Given.is

@@ -1,10 +1,10 @@
-use Rattle.std.proofs.Common.{◌≡◌, List, [], ◌∷◌, sym, subst, rules, arith}
-use Rattle.std.proofs.lemmas.Grind.{common_steps}
+use Rattle.std.proofs.Common.{◌≡◌, List, [], ◌∷◌, sym, ap, ◌∙◌, subst}
 use Rattle.std.specs.Prelude.{IfOk}
 use Rattle.array_parts.specs.Cores.{meant_by_cores}
 use Rattle.array_geom.specs.Link.{Is}
 use Rattle.exec_join.specs.Meant.{cross_meant, join_meant}
 use Rattle.logical_plan.specs.declared.parts.Pair.{Pair}
+use Rattle.logical_plan.specs.Inner.QueryView.{query_of}
 use Rattle.logical_plan.specs.Query.{Query, joined, crossed}
 use Rattle.chunk_exec.specs.Inner.Operated.{IsResultOf}
 use Rattle.chunk_exec.proofs.OperatorLaws.{if_ok, join_result, cross_result}
@@ -18,7 +18,7 @@ returns-in-Join g c =
     let right = c.in-Join.field-1.value in
     let schema = c.in-Join.schema in
     let query = joined left right schema in
-    let is : c.args.plan.now ≡ query = first_of (search rules, cc, grind (arith, common_steps)) in
+    let is : c.args.plan.now ≡ query = sym c.plan.view_is ∙ ap query_of c.in-Join.is in
     subst (λ (z : Query). IfOk c.join.result (IsResultOf z (a ∷ b ∷ []))) (sym is)
     (if_ok (λ made. Is made (join_meant schema (meant_by_cores a) (meant_by_cores b))) (IsResultOf query (a ∷ b ∷ [])) c.join.result (join_result left right schema a b) c.join.ensures.array)
 
@@ -31,7 +31,7 @@ returns-in-CrossJoin g c =
     let pairs = c.in-CrossJoin.pairs in
     let schema = c.in-CrossJoin.schema in
     let query = crossed left right pairs schema in
-    let is : c.args.plan.now ≡ query = first_of (search rules, cc, grind (arith, common_steps)) in
+    let is : c.args.plan.now ≡ query = sym c.plan.view_is ∙ ap query_of c.in-CrossJoin.is in
     subst (λ (z : Query). IfOk c.cross_join.result (IsResultOf z (a ∷ b ∷ []))) (sym is)
     (if_ok (λ made. Is made (cross_meant schema pairs (meant_by_cores a) (meant_by_cores b))) (IsResultOf query (a ∷ b ∷ [])) c.cross_join.result (cross_result left right pairs schema a b)
     (subst (λ (z : List Pair). IfOk c.cross_join.result (λ made. Is made (cross_meant schema z (meant_by_cores a) (meant_by_cores b)))) c.as_slice.ensures c.cross_join.ensures.array))

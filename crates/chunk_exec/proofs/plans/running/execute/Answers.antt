@@ -1,3 +1,4 @@
+use Rattle.chunk_exec.proofs.ComputedLaws.{front_none}
 use Rattle.chunk_exec.proofs.ExecutedLaws.{asked_if, can_settled, cells_if, front_if, means_if, schema_if, sound_if}
 use Rattle.chunk_exec.proofs.plans.running.execute.Goals as goal
 
@@ -25,3 +26,6 @@ returns-clause-asked g c =
 pub returns-clause-front : goal.returns-clause-front
 returns-clause-front g c =
     front_if c.args.plan.now c.in_ok-settled.settled c.in_ok-settled.ensures c.run-answer.result (g.S.ChunkSource.state c.args.source.now) (g.S.ChunkSource.state c.run-answer.new.source) c.run-answer.ensures.front
+
+pub returns-in_err-settled-clause-front : goal.returns-in_err-settled-clause-front
+returns-in_err-settled-clause-front g c = front_none c.from_residual.result _ _

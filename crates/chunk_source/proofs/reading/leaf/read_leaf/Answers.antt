@@ -7,7 +7,7 @@ use Rattle.array_geom.specs.Chunks.{IsChunk}
 use Rattle.array_parts.specs.Placed.{HavePlaces}
 use Rattle.chunk_source.specs.Source.{IsStored, asks}
 use Rattle.chunk_source.proofs.ReadingLeafLaws.{are_valid, have_places, is_told}
-use Rattle.chunk_source.proofs.ReadLemmas.{asked_all, asked_none, front_after, listed_among, on_err}
+use Rattle.chunk_source.proofs.ReadLemmas.{asked_after, asked_all, asked_none, front_after, keeps_on, listed_among, on_err, reads_still}
 use Rattle.chunk_source.proofs.reading.leaf.read_leaf.Goals as goal
 
 pub read_chunks-requires-clause-listed : goal.read_chunks-requires-clause-listed
@@ -46,3 +46,36 @@ pub returns-in_err-copy-clause-front : goal.returns-in_err-copy-clause-front
 returns-in_err-copy-clause-front g c =
     on_err _ _ (front_after _ _ (g.S.ChunkSource.state c.args.source.now) (g.S.ChunkSource.state c.listed.new.self) _ (ap (map (asks c.args.number)) (c.as_slice.ensures ∙ c.in_ok-listed.ensures.listed)) c.in_ok-listed.ensures.asked
     (asked_all _ _ _ c.in_ok-chunks.ensures.asked))
+
+pub read_chunks-requires-clause-reads : goal.read_chunks-requires-clause-reads
+read_chunks-requires-clause-reads g c =
+    reads_still (g.S.ChunkSource.state c.args.source.now) (g.S.ChunkSource.state c.listed.new.self) c.args.leaf.now c.in_ok-listed.ensures.kept c.requires.reads
+
+pub returns-clause-asked : goal.returns-clause-asked
+returns-clause-asked g c =
+    asked_after _ _ (g.S.ChunkSource.state c.args.source.now) (g.S.ChunkSource.state c.listed.new.self) (g.S.ChunkSource.state c.read_chunks.new.source)
+    (ap (map (asks c.args.number)) (c.as_slice.ensures ∙ c.in_ok-listed.ensures.listed)) c.in_ok-listed.ensures.asked c.in_ok-chunks.ensures.asked
+
+pub returns-clause-kept : goal.returns-clause-kept
+returns-clause-kept g c =
+    keeps_on (g.S.ChunkSource.state c.args.source.now) (g.S.ChunkSource.state c.listed.new.self) (g.S.ChunkSource.state c.read_chunks.new.source)
+    c.in_ok-listed.ensures.kept c.in_ok-chunks.ensures.kept
+
+pub returns-clause-cause : goal.returns-clause-cause
+returns-clause-cause g c = c.in_ok-chunks.ensures.cause ∙ c.in_ok-listed.ensures.cause
+
+pub returns-clause-start : goal.returns-clause-start
+returns-clause-start g c = c.in_ok-chunks.ensures.start ∙ c.in_ok-listed.ensures.start
+
+pub returns-in_err-chunks-clause-kept : goal.returns-in_err-chunks-clause-kept
+returns-in_err-chunks-clause-kept g c =
+    keeps_on (g.S.ChunkSource.state c.args.source.now) (g.S.ChunkSource.state c.listed.new.self) (g.S.ChunkSource.state c.read_chunks.new.source)
+    c.in_ok-listed.ensures.kept c.in_err-chunks.ensures.kept
+
+pub returns-in_err-copy-clause-kept : goal.returns-in_err-copy-clause-kept
+returns-in_err-copy-clause-kept g c =
+    keeps_on (g.S.ChunkSource.state c.args.source.now) (g.S.ChunkSource.state c.listed.new.self) (g.S.ChunkSource.state c.read_chunks.new.source)
+    c.in_ok-listed.ensures.kept c.in_ok-chunks.ensures.kept
+
+pub returns-in_err-copy-clause-start : goal.returns-in_err-copy-clause-start
+returns-in_err-copy-clause-start g c = c.in_ok-chunks.ensures.start ∙ c.in_ok-listed.ensures.start

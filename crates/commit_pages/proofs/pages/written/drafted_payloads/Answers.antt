@@ -1,4 +1,5 @@
-use Rattle.std.proofs.Common.{◌<◌, ◌^◌, length}
+use Rattle.std.proofs.Common.{◌<◌, ◌^◌, ◌∙◌, length, map, ap}
+use Rattle.std.proofs.lemmas.List.{take_all}
 use Rattle.array_geom.specs.declared.chunk.Chunk.{Chunk}
 use Rattle.chunk_rle.specs.Chunks.{spelling}
 use Rattle.page_file.specs.declared.commits.placed.Placed.{Placed}
@@ -17,3 +18,9 @@ loop-chunk-preserved c =
       short = all_more (λ (one : Placed). length one.bytes < 2 ^ 64) l.payloads c.push.new.self one l.invariant.short c.in_ok-drafted_payload.ensures.short
           c.in_ok-push.ensures.ok;
     }
+
+pub returns-clause-drafted : goal.returns-clause-drafted
+returns-clause-drafted c =
+    let l = c.loop-chunk in
+    l.invariant.made
+    ∙ ap (map (λ (chunk : Chunk). drafted (spelling c.args.schema.now.attributes chunk))) (take_all l.chunk-index c.args.chunks.now c.loop-chunk-test.false)

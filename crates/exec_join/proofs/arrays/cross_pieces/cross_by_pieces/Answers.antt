@@ -1,4 +1,5 @@
-use Rattle.std.proofs.Common.{◌≡◌, ℕ, true, List, refl, ◌∙◌, subst}
+use Rattle.std.proofs.Common.{◌≡◌, ℕ, true, List, refl, ◌∙◌, subst, ap}
+use Rattle.std.proofs.lemmas.Result.{IfOk-weaker}
 use Rattle.std.specs.List.{AllByRecursion}
 use Rattle.std.specs.Prelude.{IsTrue}
 use Rattle.array_geom.specs.declared.chunk.Chunk.{Chunk}
@@ -52,3 +53,7 @@ returns-clause-array c =
     (subst (λ (ps : List ℕ). AllByRecursion (λ (chunk : Chunk). is_listed (items_but ps 0 chunk.at.items) (numbers_in others) ≡ true) right.chunks) (c.as_slice.ensures ∙ c.in_ok-places.ensures) c.in_ok-others.ensures)
     (subst (λ (cs : List Chunk). AreCrossed schema.dimensions others cs c.in_ok-numbers.numbers) c.as_slice-2.ensures c.in_ok-numbers.ensures.crossed)
     c.in_ok-parts.ensures))
+
+pub returns-clause-margins : goal.returns-clause-margins
+returns-clause-margins c =
+    IfOk-weaker c.array_of_parts.result _ _ (λ made same. ap (λ m. m.items) same ∙ c.margins_of-margins.ensures) c.array_of_parts.ensures.margins

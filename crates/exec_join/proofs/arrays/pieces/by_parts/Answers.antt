@@ -1,4 +1,5 @@
-use Rattle.std.proofs.Common.{refl}
+use Rattle.std.proofs.Common.{refl, ap, ◌∙◌}
+use Rattle.std.proofs.lemmas.Result.{IfOk-weaker}
 use Rattle.array_geom.proofs.MarginLaws.{overlap_each, overlap_places}
 use Rattle.array_parts.specs.Cores.{cores_of}
 use Rattle.logical_plan.specs.Joins.{join_rows}
@@ -23,3 +24,18 @@ returns-clause-array g c =
     (join_are_rows left.schema right.schema c.args.schema.now (cores_of left) (cores_of right) (of_cores left (cores_of left) refl c.requires.left_cells) (of_cores right (cores_of right) refl c.requires.right_cells) c.requires.schema c.requires.valid)
     (joined_parts left.schema right.schema c.args.schema.now left.margins.items c.margins_of-margins.result.items (cores_of left) (cores_of right) left.chunks c.in_ok-parts.parts c.requires.schema refl c.requires.left_cells c.in_ok-parts.ensures.numbers
     c.requires.left_rise c.requires.sized c.in_ok-parts.ensures.parts))
+
+pub array_of_parts-requires : goal.array_of_parts-requires
+array_of_parts-requires g c =
+    let schema = c.args.schema.now in
+    let margins = c.margins_of-margins in
+    record {
+      valid = c.requires.valid;
+      each = overlap_each schema margins.result.items margins.ensures;
+      places = overlap_places schema margins.result.items margins.ensures c.requires.valid;
+      all = c.in_ok-parts.ensures.places;
+    }
+
+pub returns-clause-margins : goal.returns-clause-margins
+returns-clause-margins g c =
+    IfOk-weaker c.array_of_parts.result _ _ (λ made same. ap (λ m. m.items) same ∙ c.margins_of-margins.ensures) c.array_of_parts.ensures.margins

@@ -2,7 +2,7 @@ use Rattle.std.proofs.Common.{pos, get_or, rules}
 use Rattle.std.proofs.lemmas.Int.{to_z-of_z}
 use mir.Val.{SFits}
 use mir.Syntax.{w64}
-use Rattle.group_rows.proofs.KeyLaws.{next_block, front, room_left, fewer}
+use Rattle.group_rows.proofs.KeyLaws.{next_block, no_blocks, front, room_left, fewer}
 use Rattle.group_rows.proofs.grouping.blocks.+push_blocks.Goals as goal
 
 pub returns-in-len1-up-at : goal.returns-in-len1-up-at
@@ -35,3 +35,6 @@ pub block_of-requires-clause-high : goal.block_of-requires-clause-high
 block_of-requires-clause-high t c =
     let high = (front c.dimension-item.result c.args.dims.now c.args.at.now c.in-len1-up.len_at_least c.in-len1-up-at.len_at_least c.dimension-item.is
     c.requires.near c.requires.inside).high in search rules
+
+pub returns-in-empty : goal.returns-in-empty
+returns-in-empty t c = no_blocks c.args.dims.now c.args.sizes.now c.args.at.now c.args.out.now.items c.in-empty.len_below

@@ -1,13 +1,14 @@
-use Rattle.std.proofs.Common.{◌≡◌, ℕ, List, length, take, drop, ap, ◌∙◌, subst, arith, length-drop}
+use Rattle.std.proofs.Common.{◌≡◌, ◌<◌, ℕ, List, length, take, drop, ap, ◌∙◌, subst, arith, length-drop}
 use Rattle.std.proofs.lemmas.List.{take_all}
 use Rattle.cell_values.specs.declared.datum.Row.{Row}
 use Rattle.array_rows.specs.Boxes.{within}
+use Rattle.array_geom.specs.Geometry.{volume}
 use Rattle.array_geom.specs.Link.{rows_in}
-use Rattle.group_rows.specs.Inner.Places.{key_of, rows_at}
+use Rattle.group_rows.specs.Inner.Places.{HasKey, key_of, place_of, rows_at}
 use Rattle.group_rows.specs.Sets.{sets_by}
 use Rattle.group_rows.specs.Taken.{KeepsGroups}
 use Rattle.group_rows.proofs.MergeLaws.{if_ok}
-use Rattle.group_rows.proofs.PlaceLaws.{further, further_length, further_rises, length_rows, marks_left, rows_dropped}
+use Rattle.group_rows.proofs.PlaceLaws.{all_back, further, further_length, further_rises, length_rows, marks_left, rows_dropped}
 use Rattle.group_rows.proofs.places.runs.groups_of_places.Goals as goal
 
 pub taking-preserved : goal.taking-preserved
@@ -57,3 +58,13 @@ returns-clause-groups c = λ area inside.
     if_ok c.groups_in.result c.groups_in.ensures.groups
     (λ made h. h c.args.aggregates.now (sets_by group (within area rows))
     (subst (λ (zs : List Row). KeepsGroups c.args.aggregates.now (sets_by group (within area zs)) c.taking.groups) (take_all c.taking.taken rows (omega (arith, over, count))) (c.taking.invariant.states area inside)))
+
+pub take_next-requires-clause-inside : goal.take_next-requires-clause-inside
+take_next-requires-clause-inside c =
+    all_back (λ (p : ℕ). p < volume c.args.grid.now.lengths.items) c.args.positions.now c.taking.taken c.split_at.result.1.now
+    c.split_at.ensures.back c.requires.inside
+
+pub take_next-requires-clause-keyed : goal.take_next-requires-clause-keyed
+take_next-requires-clause-keyed c =
+    all_back (λ (p : ℕ). HasKey c.args.grouping.now (place_of c.args.grid.now p)) c.args.positions.now c.taking.taken c.split_at.result.1.now
+    c.split_at.ensures.back c.requires.keyed

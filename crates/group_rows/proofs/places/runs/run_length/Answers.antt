@@ -1,8 +1,9 @@
-use Rattle.std.proofs.Common.{◌≡◌, ◌∙◌, ℕ, Bool, true, false, ap, get_or, sym, arith}
+use Rattle.std.proofs.Common.{◌≡◌, ◌∙◌, ◌<◌, ℕ, Bool, true, false, ap, get_or, sym, arith}
 use Rattle.std.specs.Ordering.{is_eq}
 use Rattle.array_rows.specs.Rows.{row_major}
+use Rattle.array_geom.specs.Geometry.{volume}
 use Rattle.group_rows.specs.Inner.Places.{key_of, place_of}
-use Rattle.group_rows.proofs.PlaceLaws.{all_further, same_key}
+use Rattle.group_rows.proofs.PlaceLaws.{all_at, all_further, same_key}
 use Rattle.group_rows.proofs.places.runs.run_length.Goals as goal
 
 pub loop-count-preserved : goal.loop-count-preserved
@@ -22,3 +23,7 @@ loop-count-preserved c =
       marked = all_further (λ (b : Bool). b ≡ true) marks k false (omega (arith, less, each)) c.loop-count.invariant.marked mark;
       same = all_further (λ (p : ℕ). group (place_of grid p) ≡ at) positions k 0 less c.loop-count.invariant.same key;
     }
+
+pub place-requires-clause-inside : goal.place-requires-clause-inside
+place-requires-clause-inside c =
+    all_at (λ (p : ℕ). p < volume c.args.grid.now.lengths.items) c.args.positions.now c.loop-count.count 0 c.loop-count-test.true c.requires.inside

@@ -1,9 +1,10 @@
-use Rattle.std.proofs.Common.{◌≡◌, ℕ, List, length, take, drop, sym, ap, ◌∙◌, subst, arith, length-drop}
+use Rattle.std.proofs.Common.{◌≡◌, ◌<◌, ℕ, List, length, take, drop, sym, ap, ◌∙◌, subst, arith, length-drop}
 use Rattle.cell_values.specs.declared.datum.Row.{Row}
 use Rattle.array_rows.specs.Rows.{Coordinate}
+use Rattle.array_geom.specs.Geometry.{volume}
 use Rattle.array_geom.specs.Link.{rows_in}
 use Rattle.group_rows.specs.Inner.Places.{HaveKey, key_of, rows_at}
-use Rattle.group_rows.proofs.PlaceLaws.{all_rows, group_taken, length_rows, rows_taken}
+use Rattle.group_rows.proofs.PlaceLaws.{all_at, all_front, all_rows, group_taken, length_rows, rows_taken}
 use Rattle.group_rows.proofs.places.runs.take_group.Goals as goal
 
 pub returns-clause-states : goal.returns-clause-states
@@ -29,3 +30,11 @@ returns-clause-states c = λ before rise keeps.
     let keyed : HaveKey c.args.grouping.now grid key.items places = subst (HaveKey c.args.grouping.now grid key.items) (sym c.split_at.ensures.front) c.run_length-count.ensures.same in
     group_taken c.args.aggregates.now group key before run (take count (rows_at grid positions c.args.cells.now c.args.from)) c.args.groups.now c.take_places.new.groups
     (omega (arith, as_many, many, some)) same (all_rows (λ (at : Coordinate). group at ≡ key.items) low lengths places behind keyed) c.in_ok-take_places.ensures.states rise keeps
+
+pub place-requires-clause-inside : goal.place-requires-clause-inside
+place-requires-clause-inside c = all_at (λ (p : ℕ). p < volume c.args.grid.now.lengths.items) c.args.positions.now 0 0 c.requires.some c.requires.inside
+
+pub take_places-requires-clause-inside : goal.take_places-requires-clause-inside
+take_places-requires-clause-inside c =
+    all_front (λ (p : ℕ). p < volume c.args.grid.now.lengths.items) c.args.positions.now c.run_length-count.result c.split_at.result.0.now
+    c.split_at.ensures.front c.requires.inside

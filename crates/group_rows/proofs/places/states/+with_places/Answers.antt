@@ -1,6 +1,6 @@
 use Rattle.std.proofs.Common.{◌++◌, ◌-◌, ap, ◌∙◌, arith, length, length-append, take, [], ◌∷◌}
 use Rattle.group_rows.specs.Inner.Places.{rows_at}
-use Rattle.group_rows.proofs.TakenLaws.{room_for, split_last, states_left_out, states_more, cells_fewer, cells_more}
+use Rattle.group_rows.proofs.TakenLaws.{no_aggregate, room_for, split_last, states_left_out, states_more, cells_fewer, cells_more}
 use Rattle.group_rows.proofs.places.states.+with_places.Goals as goal
 
 pub with_places-requires : goal.with_places-requires
@@ -44,3 +44,8 @@ pub returns-in_ok-push-in-len1-up-clause-cells : goal.returns-in_ok-push-in-len1
 returns-in_ok-push-in-len1-up-clause-cells t c =
     cells_more (length c.args.positions.now) c.args.states c.pop.new.self c.push.new.self c.in_ok-more-in-len1-up.more c.in-Some.state c.in_ok-with_column-in-len1-up.field-0 c.in-Some.ensures c.in_ok-push-in-len1-up.ensures.ok
     c.in_ok-more-in-len1-up.ensures.cells c.in_ok-with_column-in-len1-up.ensures.cells
+
+pub returns-in-empty-clause-states : goal.returns-in-empty-clause-states
+returns-in-empty-clause-states t c = λ before h rise.
+    no_aggregate c.args.aggregates.now before (before ++ rows_at c.args.grid.now c.args.positions.now c.args.cells.now c.args.from) c.args.states
+    c.pop.new.self c.in-Some.state c.in-empty.len_below c.in-Some.ensures h

@@ -1,6 +1,6 @@
-use Rattle.std.proofs.Common.{◌≤◌, ℤ, List, length, drop, subst, sym, arith, length-drop}
+use Rattle.std.proofs.Common.{◌+◌, ◌≤◌, ◌∙◌, ℕ, ℤ, List, length, drop, subst, sym, ap, arith, length-drop}
 use Rattle.group_rows.proofs.ColumnLaws.{as_many_numbers}
-use Rattle.group_rows.proofs.PlaceLaws.{run_numbers}
+use Rattle.group_rows.proofs.PlaceLaws.{run_long, run_numbers}
 use Rattle.group_rows.specs.Inner.Columns.{HaveNumbers}
 use Rattle.group_rows.specs.Inner.Places.{rows_at}
 use Rattle.logical_plan.specs.Groups.{cells_of}
@@ -23,3 +23,12 @@ returns-in-Some-clause-stands c = λ before stands rise.
     c.with_numbers.ensures.stands c.args.aggregate.now before rows stands
     (subst (λ (numbers : List ℤ). HaveNumbers c.args.aggregate.now.attribute numbers (cells_of rows)) (sym c.run_of.ensures)
     (run_numbers c.args.aggregate.now.attribute c.in-Some.numbers.now c.args.cells.now grid.low.items grid.lengths.items positions c.args.from enough c.in-Some.ensures)) rise
+
+pub returns-in-Some-clause-cells : goal.returns-in-Some-clause-cells
+returns-in-Some-clause-cells c =
+    let numbers = c.in-Some.numbers.now in
+    let same = as_many_numbers c.args.aggregate.now.attribute numbers c.args.cells.now c.in-Some.ensures in
+    let count = length c.args.positions.now in
+    let enough : c.args.from + count ≤ length numbers = omega (arith, same, c.requires.each) in
+    c.with_numbers.ensures.cells
+    ∙ ap (λ (n : ℕ). c.args.state.cells + n) (run_long numbers c.run_of.result.now c.args.from count c.run_of.ensures enough)

@@ -1,10 +1,11 @@
-use Rattle.std.proofs.Common.{◌≡◌, ◌+◌, ◌-◌, ◌≤◌, [], length, get_or, drop, sym, ap, arith, get_or-drop, length-drop}
+use Rattle.std.proofs.Common.{◌≡◌, ℕ, ◌+◌, ◌-◌, ◌≤◌, ◌<◌, [], length, get_or, drop, sym, ap, arith, get_or-drop, length-drop}
 use Rattle.cell_values.specs.declared.datum.Cell.{Cell}
 use Rattle.cell_values.specs.declared.datum.Cell.TheVariants.{Full}
 use Rattle.cell_values.specs.declared.datum.Row.{Row}
 use Rattle.array_rows.specs.Rows.{placed}
+use Rattle.array_geom.specs.Geometry.{volume}
 use Rattle.group_rows.specs.Inner.Places.{place_of, rows_at}
-use Rattle.group_rows.proofs.PlaceLaws.{length_rows, row_in}
+use Rattle.group_rows.proofs.PlaceLaws.{all_at, length_rows, row_in}
 use Rattle.group_rows.proofs.TakenLaws.{all_also, none_also, one_also}
 use Rattle.group_rows.proofs.places.states.with_each.Goals as goal
 
@@ -42,3 +43,7 @@ returns-clause-stands c =
     let enough : length c.args.positions.now ≤ length (drop c.args.from c.args.cells.now) = omega (arith, long, each) in
     let count = length_rows c.args.grid.now.low.items c.args.grid.now.lengths.items c.args.positions.now (drop c.args.from c.args.cells.now) enough in
     all_also c.args.aggregate.now (rows_at c.args.grid.now c.args.positions.now c.args.cells.now c.args.from) c.args.state c.loop-place.place c.loop-place.state (omega (arith, over, count)) c.loop-place.invariant.also
+
+pub take_at-requires-clause-inside : goal.take_at-requires-clause-inside
+take_at-requires-clause-inside c =
+    all_at (λ (p : ℕ). p < volume c.args.grid.now.lengths.items) c.args.positions.now c.loop-place.place 0 c.loop-place-test.true c.requires.inside

@@ -10,18 +10,18 @@ merge_states-requires t c =
     let b : cells_of c.args.right ≡ max (cells_of c.pop-in-Some.new.self) c.in-Some-pop.other.cells = ap cells_of c.in-Some-pop.ensures ∙ cells_push c.pop-in-Some.new.self c.in-Some-pop.other in
     (omega (arith, n, c.decreases), omega (arith, a, b, c.requires.room))
 
-pub merge-requires : goal.merge-requires
-merge-requires t c =
+pub merge-united-requires : goal.merge-united-requires
+merge-united-requires t c =
     let a : cells_of c.args.left ≡ max (cells_of c.pop.new.self) c.in-Some.state.cells = ap cells_of c.in-Some.ensures ∙ cells_push c.pop.new.self c.in-Some.state in
     let b : cells_of c.args.right ≡ max (cells_of c.pop-in-Some.new.self) c.in-Some-pop.other.cells = ap cells_of c.in-Some-pop.ensures ∙ cells_push c.pop-in-Some.new.self c.in-Some-pop.other in
     record { room = omega (arith, a, b, c.requires.room) }
 
 pub returns-in_ok-push-in-Some-pop-clause-states : goal.returns-in_ok-push-in-Some-pop-clause-states
 returns-in_ok-push-in-Some-pop-clause-states t c =
-    last_both c.args.left c.args.right c.pop.new.self c.pop-in-Some.new.self c.in_ok-states-in-Some-pop.states c.push.new.self c.in-Some.state c.in-Some-pop.other c.merge.result
-    c.in-Some.ensures c.in-Some-pop.ensures c.in_ok-push-in-Some-pop.ensures.ok c.in_ok-states-in-Some-pop.ensures.states c.merge.ensures.stands
+    last_both c.args.left c.args.right c.pop.new.self c.pop-in-Some.new.self c.in_ok-states-in-Some-pop.states c.push.new.self c.in-Some.state c.in-Some-pop.other c.merge-united.result
+    c.in-Some.ensures c.in-Some-pop.ensures c.in_ok-push-in-Some-pop.ensures.ok c.in_ok-states-in-Some-pop.ensures.states c.merge-united.ensures.stands
 
 pub returns-in_ok-push-in-Some-pop-clause-cells : goal.returns-in_ok-push-in-Some-pop-clause-cells
 returns-in_ok-push-in-Some-pop-clause-cells t c =
-    last_cells c.args.left c.args.right c.pop.new.self c.pop-in-Some.new.self c.in_ok-states-in-Some-pop.states c.push.new.self c.in-Some.state c.in-Some-pop.other c.merge.result
-    c.in-Some.ensures c.in-Some-pop.ensures c.in_ok-push-in-Some-pop.ensures.ok c.in_ok-states-in-Some-pop.ensures.cells c.merge.ensures.cells
+    last_cells c.args.left c.args.right c.pop.new.self c.pop-in-Some.new.self c.in_ok-states-in-Some-pop.states c.push.new.self c.in-Some.state c.in-Some-pop.other c.merge-united.result
+    c.in-Some.ensures c.in-Some-pop.ensures c.in_ok-push-in-Some-pop.ensures.ok c.in_ok-states-in-Some-pop.ensures.cells c.merge-united.ensures.cells

@@ -34,3 +34,15 @@ returns-clause-cells c =
     let from_right = ap cells_in (c.from_vec-right.ensures.items ∙ c.into_vec-2.ensures) in
     cells_at_end c.merging.merged c.merging.left.items c.merging.right.items c.move_all.new.merged c.move_all-2.new.merged (cells_in c.args.left + cells_in c.args.right) c.in_ok-move_all.ensures c.in_ok-move_all-2.ensures
     (omega (arith, from_left, from_right, c.merging.invariant.cells))
+
+pub move_next-requires-clause-left : goal.move_next-requires-clause-left
+move_next-requires-clause-left c = (c.both_have.ensures.0 c.merging-test.true).0
+
+pub move_next-requires-clause-right : goal.move_next-requires-clause-right
+move_next-requires-clause-right c = (c.both_have.ensures.0 c.merging-test.true).1
+
+pub move_next-requires-clause-room : goal.move_next-requires-clause-room
+move_next-requires-clause-room c =
+    let from_left = ap cells_in (c.from_vec-left.ensures.items ∙ c.into_vec.ensures) in
+    let from_right = ap cells_in (c.from_vec-right.ensures.items ∙ c.into_vec-2.ensures) in
+    omega (arith, from_left, from_right, c.merging.invariant.cells, c.requires.room)

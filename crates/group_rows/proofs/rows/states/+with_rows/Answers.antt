@@ -1,5 +1,5 @@
 use Rattle.std.proofs.Common.{◌++◌, ◌-◌, ap, ◌∙◌, arith, length, length-append, take, [], ◌∷◌}
-use Rattle.group_rows.proofs.TakenLaws.{room_for, split_last, states_left_out, states_more, cells_fewer, cells_more}
+use Rattle.group_rows.proofs.TakenLaws.{no_aggregate, room_for, split_last, states_left_out, states_more, cells_fewer, cells_more}
 use Rattle.group_rows.proofs.rows.states.+with_rows.Goals as goal
 
 pub with_rows-requires : goal.with_rows-requires
@@ -29,3 +29,7 @@ pub returns-in_ok-push-in-len1-up-clause-cells : goal.returns-in_ok-push-in-len1
 returns-in_ok-push-in-len1-up-clause-cells t c =
     cells_more (length c.args.rows.now) c.args.states c.pop.new.self c.push.new.self c.in_ok-more-in-len1-up.more c.in-Some.state c.in_ok-with_cells-in-len1-up.field-0 c.in-Some.ensures c.in_ok-push-in-len1-up.ensures.ok
     c.in_ok-more-in-len1-up.ensures.cells c.in_ok-with_cells-in-len1-up.ensures.cells
+
+pub returns-in-empty-clause-states : goal.returns-in-empty-clause-states
+returns-in-empty-clause-states t c = λ before h rise.
+    no_aggregate c.args.aggregates.now before (before ++ c.args.rows.now) c.args.states c.pop.new.self c.in-Some.state c.in-empty.len_below c.in-Some.ensures h

@@ -1,8 +1,10 @@
-use Rattle.std.proofs.Common.{◌≡◌, ◌+◌, ◌-◌, ◌/◌, length, take, drop, ap, ◌∙◌, subst, arith, length-drop}
+use Rattle.std.proofs.Common.{◌≡◌, ℕ, List, ◌+◌, ◌-◌, ◌/◌, length, take, drop, ap, ◌∙◌, subst, arith, length-drop}
 use Rattle.std.specs.Vec.Iter.{into_iter_items}
+use Rattle.std.proofs.lemmas.List.{drop-drop}
+use Rattle.group_rows.specs.declared.rows.groups.Groups.{Groups}
 use Rattle.group_rows.specs.Counts.{cells_in_all}
 use Rattle.group_rows.specs.Grouped.{ArePartsOf}
-use Rattle.group_rows.proofs.MergeLaws.{if_ok}
+use Rattle.group_rows.proofs.MergeLaws.{if_ok, ok_now}
 use Rattle.group_rows.proofs.RowsPartLaws.{none_of, one_of, front, back, front_apart, back_apart, halves_apart, both_halves, cells_halves, cells_of_both}
 use Rattle.group_rows.proofs.rows.united.+gather.Goals as goal
 
@@ -47,3 +49,13 @@ returns-clause-cells t c =
     let half = c.args.count / 2 in
     let both = cells_of_both half (c.args.count - half) c.args.count (into_iter_items c.args.parts.now) (into_iter_items c.gather.new.parts) (omega arith) c.in_ok-left.ensures.left in
     if_ok c.merge_two.result c.merge_two.ensures.cells (λ merged h. omega (arith, both, h, c.in_ok-left.ensures.cells, c.in_ok-right.ensures.cells))
+
+pub returns-clause-left : goal.returns-clause-left
+returns-clause-left t c =
+    let parts = into_iter_items c.args.parts.now in
+    let half = c.args.count / 2 in
+    let behind = c.args.count - half in
+    let all : half + behind ≡ c.args.count = omega arith in
+    ok_now c.merge_two.result
+    (c.in_ok-right.ensures.left ∙ ap (λ (z : List Groups). drop behind z) c.in_ok-left.ensures.left ∙ drop-drop behind half parts
+    ∙ ap (λ (n : ℕ). drop n parts) all)

@@ -1,4 +1,4 @@
-use Rattle.std.proofs.Common.{rules, ◌<◌, length, map, Ok, arith}
+use Rattle.std.proofs.Common.{rules, ◌<◌, ◌∙◌, ap, length, length-append, map, Ok, arith}
 use Rattle.array_rows.specs.Boxes.{bounds_of}
 use Rattle.array_geom.specs.Link.{core_rows}
 use Rattle.chunk_cells.proofs.MergeLaws.{IsRising-core_rows}
@@ -75,3 +75,31 @@ returns-in_ok-groups-in-Ok-2-clause-groups t c =
     c.args.aggregates.now (map (origin_of source) c.args.target.now.dimensions) (bounds_of c.args.target.now.dimensions) c.requires.plain (IsRising-core_rows source.dimensions margins chunks)
     c.in_ok-broken.field-0 c.in_ok-broken-in-Ok.field-0 c.in-Ok.left c.in-Ok-2.right (Ok c.in_ok-groups-in-Ok-2.groups) c.in-Ok.is c.in-Ok-2.is c.in_ok-broken.ensures.groups c.in_ok-broken-in-Ok.ensures.groups
     (c.in_ok-groups-in-Ok-2.ensures.groups c.args.aggregates.now)
+
+pub merge_two-requires : goal.merge_two-requires
+merge_two-requires t c =
+    let source = c.args.source.now in
+    let margins = c.args.margins.now.items in
+    let chunks = c.args.chunks.now in
+    let front = c.split_at.result.0.now in
+    let back = c.split_at.result.1.now in
+    let split = cut_rows source.dimensions margins c.half_of_bands-half.result chunks front back (c.half_of_bands-half.ensures.rows margins)
+    c.split_at.ensures.front c.split_at.ensures.back in
+    let all = ap length split ∙ length-append (core_rows source.dimensions margins front) (core_rows source.dimensions margins back) in
+    let one = rw c.in-Ok.is at c.in_ok-broken.ensures.cells in
+    let other = rw c.in-Ok-2.is at c.in_ok-broken-in-Ok.ensures.cells in
+    omega (arith, one, other, all, c.requires.bands.counted)
+
+pub returns-in_ok-groups-in-Ok-2-clause-cells : goal.returns-in_ok-groups-in-Ok-2-clause-cells
+returns-in_ok-groups-in-Ok-2-clause-cells t c =
+    let source = c.args.source.now in
+    let margins = c.args.margins.now.items in
+    let chunks = c.args.chunks.now in
+    let front = c.split_at.result.0.now in
+    let back = c.split_at.result.1.now in
+    let split = cut_rows source.dimensions margins c.half_of_bands-half.result chunks front back (c.half_of_bands-half.ensures.rows margins)
+    c.split_at.ensures.front c.split_at.ensures.back in
+    let all = ap length split ∙ length-append (core_rows source.dimensions margins front) (core_rows source.dimensions margins back) in
+    let one = rw c.in-Ok.is at c.in_ok-broken.ensures.cells in
+    let other = rw c.in-Ok-2.is at c.in_ok-broken-in-Ok.ensures.cells in
+    omega (arith, one, other, all, c.in_ok-groups-in-Ok-2.ensures.cells)

@@ -1,4 +1,5 @@
-use Rattle.std.proofs.Common.{◌∙◌, length, map, List, arith, sym, subst}
+use Rattle.std.proofs.Common.{◌≢◌, ◌<◌, ◌≤◌, ◌^◌, ◌∙◌, AllPairs, ap, length, map, List, arith, sym, subst, vec_capacity}
+use Rattle.std.proofs.lemmas.List.{length-map}
 use Rattle.run_opening.specs.Names.{Word, reply_name}
 use Rattle.run_opening.specs.Opened.{AreOpenedFor, HandsOut, IsSinkOf, IsSourceOf, LeavesUnasked}
 use Rattle.run_opening.proofs.OpeningLemmas.{fails_from_reply, first_reply, first_script, hands_none, hands_since, hands_some_since, leaves_both, leaves_front, names_count, sinks_of}
@@ -40,6 +41,20 @@ returns-in-Err-open_replies g c =
       some = hands_some_since (length names) (length scripts) start mid next (names_count scripts names are start mid next first.others.later first.others.wants_later first.replies)
           first.handed e.some;
     }
+
+pub open_replies-requires-clause-room : goal.open_replies-requires-clause-room
+open_replies-requires-clause-room g c κs within =
+    let count = ap length (c.deref.ensures.value ∙ c.requires.room.names) ∙ length-map c.args.scripts.now reply_name in
+    subst (λ n. n ≤ vec_capacity c.args.room.sinks) (sym count) c.requires.room.sink_room
+
+pub open_replies-requires-clause-few : goal.open_replies-requires-clause-few
+open_replies-requires-clause-few g c κs within =
+    let count = ap length (c.deref.ensures.value ∙ c.requires.room.names) ∙ length-map c.args.scripts.now reply_name in
+    subst (λ n. n < 2 ^ 32) (sym count) c.requires.few
+
+pub open_replies-requires-clause-apart : goal.open_replies-requires-clause-apart
+open_replies-requires-clause-apart g c κs within =
+    subst (AllPairs (λ a b. a ≢ b)) (sym (c.deref.ensures.value ∙ c.requires.room.names)) c.requires.names.replies_apart
 
 pub into_streams-requires : goal.into_streams-requires
 into_streams-requires g c =

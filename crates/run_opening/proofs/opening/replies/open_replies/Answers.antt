@@ -1,5 +1,6 @@
-use Rattle.std.proofs.Common.{◌≡◌, ◌∙◌, List, ℕ, length, Option, Some, IfSome, arith, refl, rules, subst}
-use Rattle.run_opening.specs.Opened.{IsSinkOf}
+use Rattle.std.proofs.Common.{◌≡◌, ◌∙◌, List, ℕ, length, Option, Some, IfSome, arith, refl, rules, subst, map, take_all}
+use Rattle.std.specs.List.{AllZip}
+use Rattle.run_opening.specs.Opened.{IsSinkOf, LeavesUnasked}
 use Rattle.run_opening.proofs.OpeningLemmas.{fails_reply, hands_more, hands_some, leaves_all, leaves_more, stops_reply, told_reply, zips_more}
 use Rattle.run_opening.proofs.opening.replies.open_replies.Goals as goal
 
@@ -47,3 +48,15 @@ returns-in-Err g c =
       handed = tt;
       some = hands_some i (length names) start next (omega (arith, c.loop-place-test.true)) (λ fits. e.handed ∙ so_far.handed fits);
     }
+
+pub returns-clause-ok : goal.returns-clause-ok
+returns-clause-ok g c =
+    let names = c.args.names.now in
+    subst (λ l. AllZip (IsSinkOf (g.F.Shelf.state c.args.shelf.now)) l (map g.F.K.Sink.state c.loop-place.sinks.items))
+    (take_all c.loop-place.place names c.loop-place-test.false) c.loop-place.invariant.opened
+
+pub returns-clause-others : goal.returns-clause-others
+returns-clause-others g c =
+    let names = c.args.names.now in
+    subst (λ l. LeavesUnasked l (g.F.Shelf.state c.args.shelf.now) (g.F.Shelf.state c.loop-place.shelf))
+    (take_all c.loop-place.place names c.loop-place-test.false) c.loop-place.invariant.told

@@ -1,5 +1,6 @@
-use Rattle.std.proofs.Common.{◌≡◌, ◌∙◌, List, ℕ, Option, Some, IfSome, refl, rules, subst}
-use Rattle.run_opening.specs.Opened.{IsSourceOf}
+use Rattle.std.proofs.Common.{◌≡◌, ◌∙◌, List, ℕ, Option, Some, IfSome, refl, rules, subst, map, take_all}
+use Rattle.std.specs.List.{AllZip}
+use Rattle.run_opening.specs.Opened.{IsSourceOf, LeavesUnasked}
 use Rattle.run_opening.proofs.OpeningLemmas.{fails_script, leaves_all, leaves_more, stops_script, told_script, zips_more}
 use Rattle.run_opening.proofs.opening.scripts.open_scripts.Goals as goal
 
@@ -48,3 +49,15 @@ returns-in-Err g c =
       replies = λ n. e.replies n ∙ so_far.replies n;
       handed = e.handed ∙ so_far.handed;
     }
+
+pub returns-clause-ok : goal.returns-clause-ok
+returns-clause-ok g c =
+    let names = c.args.scripts.now in
+    subst (λ l. AllZip (IsSourceOf (g.F.Shelf.state c.args.shelf.now)) l (map g.F.S.Source.state c.loop-place.sources.items))
+    (take_all c.loop-place.place names c.loop-place-test.false) c.loop-place.invariant.opened
+
+pub returns-clause-others : goal.returns-clause-others
+returns-clause-others g c =
+    let names = c.args.scripts.now in
+    subst (λ l. LeavesUnasked l (g.F.Shelf.state c.args.shelf.now) (g.F.Shelf.state c.loop-place.shelf))
+    (take_all c.loop-place.place names c.loop-place-test.false) c.loop-place.invariant.told

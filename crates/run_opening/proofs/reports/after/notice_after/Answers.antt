@@ -1,8 +1,8 @@
 use Rattle.std.proofs.Common.{true, false, None, Some, position, refl, sym, ◌∙◌}
 use Rattle.std.specs.List.{list_any}
 use Rattle.run_opening.specs.Outcomes.{breaks_off, first_damage, has_refusal}
-use Rattle.run_opening.specs.declared.reports.notices.Notice.TheVariants.{Damaged, Disk, Done, Refused, Stream}
-use Rattle.run_opening.proofs.OutcomeLemmas.{chosen, is_damaged, is_disk, is_done, is_refused, is_stream}
+use Rattle.run_opening.specs.declared.reports.notices.Notice.TheVariants.{Damaged, Disk, Done, Memory, Refused, Stream}
+use Rattle.run_opening.proofs.OutcomeLemmas.{as_refusal, as_stream, chosen, is_damaged, is_disk, is_done, is_refused, is_stream}
 use Rattle.run_opening.proofs.reports.after.notice_after.Goals as goal
 
 pub returns-then-is_any_with_fault-clause-disk : goal.returns-then-is_any_with_fault-clause-disk
@@ -37,3 +37,33 @@ returns-in-None-2-clause-done g c =
     is_done all Done (chosen all false false None None false
     (sym c.if-is_any_without_memory.false ∙ c.is_any_without_memory.ensures) (sym c.if-is_any_with_fault.false ∙ c.is_any_with_fault.ensures) c.in_default.ensures
     c.in-None.ensures (sym c.if-is_any_refused.false ∙ c.is_any_refused.ensures))
+
+pub returns-then-is_any_without_memory-clause-refused : goal.returns-then-is_any_without_memory-clause-refused
+returns-then-is_any_without_memory-clause-refused g c is = absurd (as_refusal Memory is)
+
+pub returns-then-is_any_without_memory-clause-stream : goal.returns-then-is_any_without_memory-clause-stream
+returns-then-is_any_without_memory-clause-stream g c session is = absurd (as_stream Memory session is)
+
+pub returns-then-is_any_with_fault-clause-refused : goal.returns-then-is_any_with_fault-clause-refused
+returns-then-is_any_with_fault-clause-refused g c is = absurd (as_refusal Disk is)
+
+pub returns-then-is_any_with_fault-clause-stream : goal.returns-then-is_any_with_fault-clause-stream
+returns-then-is_any_with_fault-clause-stream g c session is = absurd (as_stream Disk session is)
+
+pub returns-in-Some-clause-refused : goal.returns-in-Some-clause-refused
+returns-in-Some-clause-refused g c is = absurd (as_refusal (Damaged c.in-Some.page) is)
+
+pub returns-in-Some-clause-stream : goal.returns-in-Some-clause-stream
+returns-in-Some-clause-stream g c session is = absurd (as_stream (Damaged c.in-Some.page) session is)
+
+pub returns-in-Some-first_broken_off-clause-refused : goal.returns-in-Some-first_broken_off-clause-refused
+returns-in-Some-first_broken_off-clause-refused g c is = absurd (as_refusal (Stream c.in-Some-first_broken_off.session) is)
+
+pub returns-in-None-clause-stream : goal.returns-in-None-clause-stream
+returns-in-None-clause-stream g c session is = absurd (as_stream Refused session is)
+
+pub returns-in-None-2-clause-refused : goal.returns-in-None-2-clause-refused
+returns-in-None-2-clause-refused g c is = absurd (as_refusal Done is)
+
+pub returns-in-None-2-clause-stream : goal.returns-in-None-2-clause-stream
+returns-in-None-2-clause-stream g c session is = absurd (as_stream Done session is)

@@ -1,13 +1,14 @@
-use Rattle.std.proofs.Common.{◌≡◌, ◌++◌, Ok, IfOk, refl, subst}
+use Rattle.std.proofs.Common.{◌≡◌, ◌++◌, Some, Ok, IfOk, refl, subst}
 use Rattle.afl_types.specs.declared.types.statements.checking.Typed.TheVariants.{Change as AChange}
 use Rattle.chunk_source.proofs.ReadLemmas.{on_err}
 use Rattle.plan_changes.specs.Databases.{Database}
+use Rattle.commit_pages.specs.Changes.{AreValid, ComesWith}
 use Rattle.changed_chunks.specs.Changing.{IsAnswerOver, IsToldOf}
 use Rattle.changed_chunks.specs.Targets.{IsTargetAsking}
 use Rattle.statement_replies.specs.Inner.Made.{asked_made}
 use Rattle.statement_replies.specs.Outcomes.{ForRowsPut}
 use Rattle.statement_replies.proofs.Asking.{none_asked, put_asked, put_front, with_chunks}
-use Rattle.statement_replies.proofs.Offers.{some_made}
+use Rattle.statement_replies.proofs.Offers.{broken_made, put_plan, some_made}
 use Rattle.statement_replies.proofs.Targets.{can_change, told_of}
 use Rattle.statement_replies.proofs.answers.changes.chunks_put.Goals as goal
 
@@ -45,5 +46,28 @@ returns-in-Ok-clause-asked g c =
     let old = g.S.ChunkSource.state c.args.source.now in
     let new = g.S.ChunkSource.state c.changed.new.source in
     subst (λ made. ForRowsPut c.args.names.now old (Ok (AChange c.args.change.now)) (λ rows. new.asked ≡ old.asked ++ asked_made rows old c.args.names.now c.args.change.now (with_chunks made))) c.in-Ok.is
+    (put_asked c.args.names.now c.args.change.now c.args.name.now c.args.schema.now c.in_ok-target.target c.in_ok-target.ensures c.requires.put old new
+    c.changed.new.asking c.in_ok-changed.field-0 c.in_ok-changed.ensures.asked c.in_ok-changed.ensures.only)
+
+pub returns-in-Ok-clause-kind : goal.returns-in-Ok-clause-kind
+returns-in-Ok-clause-kind g c = (
+  subst (λ made. IfOk made (λ changed. ComesWith c.args.change.now (Some changed))) c.in-Ok.is c.in_ok-changed.ensures.comes,
+  subst (λ made. IfOk made AreValid) c.in-Ok.is c.in_ok-changed.ensures.valid,
+)
+
+pub returns-clause-kind : goal.returns-clause-kind
+returns-clause-kind g c = put_plan c.args.name.now c.args.schema.now c.args.change.now c.requires.put
+
+pub returns-clause-told : goal.returns-clause-told
+returns-clause-told g c db there =
+    let source = g.S.ChunkSource.state c.args.source.now in
+    let over = told_of c.args.names.now c.args.change.now c.args.name.now c.args.schema.now c.in_ok-target.target c.in_ok-target.ensures c.requires.put source db there in
+    broken_made db c.args.change.now c.in-Err.broken (subst (IsAnswerOver db c.args.change.now) c.in-Err.is (c.in_ok-changed.ensures.told db over))
+
+pub returns-clause-asked : goal.returns-clause-asked
+returns-clause-asked g c =
+    let old = g.S.ChunkSource.state c.args.source.now in
+    let new = g.S.ChunkSource.state c.changed.new.source in
+    subst (λ made. ForRowsPut c.args.names.now old (Ok (AChange c.args.change.now)) (λ rows. new.asked ≡ old.asked ++ asked_made rows old c.args.names.now c.args.change.now (with_chunks made))) c.in-Err.is
     (put_asked c.args.names.now c.args.change.now c.args.name.now c.args.schema.now c.in_ok-target.target c.in_ok-target.ensures c.requires.put old new
     c.changed.new.asking c.in_ok-changed.field-0 c.in_ok-changed.ensures.asked c.in_ok-changed.ensures.only)

@@ -1,6 +1,6 @@
 use Rattle.std.proofs.Common.{◌≡◌, ◌∙◌, ◌++◌, Ok, IfOk, subst}
 use Rattle.afl_types.specs.declared.types.statements.checking.Typed.TheVariants.{Change as AChange}
-use Rattle.chunk_source.proofs.ReadLemmas.{on_err}
+use Rattle.chunk_source.proofs.ReadLemmas.{keeps_on, on_err}
 use Rattle.plan_changes.specs.Databases.{Database}
 use Rattle.changed_chunks.specs.Targets.{IsTargetAsking}
 use Rattle.statement_replies.specs.Inner.Made.{HasChunks, IsMadeIn, asked_made}
@@ -65,3 +65,19 @@ returns-in_ok-faulty-in-Err-clause-asked g c =
 pub returns-in_err-faulty-in-Err-clause-front : goal.returns-in_err-faulty-in-Err-clause-front
 returns-in_err-faulty-in-Err-clause-front g c =
     on_err _ _ (front_made c.args.names.now (g.S.ChunkSource.state c.args.source.now) (g.S.ChunkSource.state c.chunks_of.new.source) c.args.change.now c.in_ok-changed.field-0 c.in_ok-changed.ensures.asked)
+
+pub returns-in_ok-offered-in-Ok-clause-start : goal.returns-in_ok-offered-in-Ok-clause-start
+returns-in_ok-offered-in-Ok-clause-start g c = c.in_ok-offered-in-Ok.ensures.start ∙ c.in_ok-changed.ensures.start
+
+pub returns-in_ok-offered-in-Ok-clause-kept : goal.returns-in_ok-offered-in-Ok-clause-kept
+returns-in_ok-offered-in-Ok-clause-kept g c =
+    keeps_on (g.S.ChunkSource.state c.args.source.now) (g.S.ChunkSource.state c.chunks_of.new.source) (g.S.ChunkSource.state c.offered.new.source)
+    c.in_ok-changed.ensures.kept c.in_ok-offered-in-Ok.ensures.kept
+
+pub returns-in_ok-offered-in-Ok-clause-cause : goal.returns-in_ok-offered-in-Ok-clause-cause
+returns-in_ok-offered-in-Ok-clause-cause g c = c.in_ok-offered-in-Ok.ensures.cause ∙ c.in_ok-changed.ensures.cause
+
+pub returns-in_err-offered-in-Ok-clause-kept : goal.returns-in_err-offered-in-Ok-clause-kept
+returns-in_err-offered-in-Ok-clause-kept g c =
+    keeps_on (g.S.ChunkSource.state c.args.source.now) (g.S.ChunkSource.state c.chunks_of.new.source) (g.S.ChunkSource.state c.offered.new.source)
+    c.in_ok-changed.ensures.kept c.in_err-offered-in-Ok.ensures.kept

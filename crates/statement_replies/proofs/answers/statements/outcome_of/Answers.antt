@@ -3,7 +3,7 @@ use Rattle.check_rules.specs.Checked.{Answers, Checked, refused as broken_rule}
 use Rattle.check_rules.specs.declared.rules.fault.TypeFault.{TypeFault}
 use Rattle.afl_types.specs.Checking.{check_of}
 use Rattle.afl_types.specs.declared.types.statements.checking.Typed.{Typed}
-use Rattle.chunk_source.proofs.ReadLemmas.{on_err}
+use Rattle.chunk_source.proofs.ReadLemmas.{keeps_still, on_err}
 use Rattle.result_print.specs.declared.refusal.Refusal.TheVariants.{Typing}
 use Rattle.statement_replies.specs.Reply.{refused as told}
 use Rattle.statement_replies.specs.Statements.{without_change}
@@ -77,3 +77,9 @@ returns-in_err-refuse-in-Err-Rule-clause-allowed g c =
 pub returns-in-Err-Memory-clause-front : goal.returns-in-Err-Memory-clause-front
 returns-in-Err-Memory-clause-front g c =
     none_asked c.args.names.now (g.S.ChunkSource.state c.args.source.now) (check_of c.args.tree.now c.args.text.now c.args.names.now) (g.S.ChunkSource.state c.args.source.now) refl
+
+pub returns-in_ok-refuse-in-Err-Rule-clause-kept : goal.returns-in_ok-refuse-in-Err-Rule-clause-kept
+returns-in_ok-refuse-in-Err-Rule-clause-kept g c = keeps_still (g.S.ChunkSource.state c.args.source.now)
+
+pub returns-in-Err-Memory-clause-kept : goal.returns-in-Err-Memory-clause-kept
+returns-in-Err-Memory-clause-kept g c = keeps_still (g.S.ChunkSource.state c.args.source.now)

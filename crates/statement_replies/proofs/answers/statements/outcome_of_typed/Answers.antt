@@ -1,7 +1,7 @@
 use Rattle.std.proofs.Common.{Ok, refl, ap, subst}
 use Rattle.afl_types.specs.declared.types.statements.checking.Typed.{Typed}
 use Rattle.afl_types.specs.declared.types.statements.checking.Typed.TheVariants.{Query as AQuery, Change as AChange, Versions, Show, ListArrays}
-use Rattle.chunk_source.proofs.ReadLemmas.{on_err}
+use Rattle.chunk_source.proofs.ReadLemmas.{keeps_still, on_err}
 use Rattle.statement_replies.specs.Statements.{list_reply, show_reply, versions_reply, without_change}
 use Rattle.statement_replies.specs.declared.answers.outcome.Outcome.TheVariants.{Replied}
 use Rattle.statement_replies.specs.Inner.Made.{CanAnswer}
@@ -118,3 +118,12 @@ returns-in_ok-list_reply-in-ListArrays-clause-asked g c =
 pub returns-in_err-list_reply-in-ListArrays-clause-front : goal.returns-in_err-list_reply-in-ListArrays-clause-front
 returns-in_err-list_reply-in-ListArrays-clause-front g c =
     on_err _ _ (none_asked c.args.names.now (g.S.ChunkSource.state c.args.source.now) (good c.args.typed) (g.S.ChunkSource.state c.args.source.now) refl)
+
+pub returns-in_ok-show_reply-in-Show-clause-kept : goal.returns-in_ok-show_reply-in-Show-clause-kept
+returns-in_ok-show_reply-in-Show-clause-kept g c = keeps_still (g.S.ChunkSource.state c.args.source.now)
+
+pub returns-in_ok-versions_reply-in-Versions-clause-kept : goal.returns-in_ok-versions_reply-in-Versions-clause-kept
+returns-in_ok-versions_reply-in-Versions-clause-kept g c = keeps_still (g.S.ChunkSource.state c.args.source.now)
+
+pub returns-in_ok-list_reply-in-ListArrays-clause-kept : goal.returns-in_ok-list_reply-in-ListArrays-clause-kept
+returns-in_ok-list_reply-in-ListArrays-clause-kept g c = keeps_still (g.S.ChunkSource.state c.args.source.now)

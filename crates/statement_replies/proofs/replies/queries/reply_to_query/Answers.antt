@@ -3,7 +3,7 @@ use Rattle.logical_plan.specs.Query.{Query}
 use Rattle.check_rules.specs.Checked.{Answers, refused}
 use Rattle.check_rules.specs.declared.rules.fault.TypeFault.{TypeFault}
 use Rattle.afl_types.specs.Queries.{query_of}
-use Rattle.chunk_source.proofs.ReadLemmas.{asked_none, on_err}
+use Rattle.chunk_source.proofs.ReadLemmas.{asked_none, keeps_still, on_err}
 use Rattle.result_print.specs.declared.refusal.Refusal.TheVariants.{Typing}
 use Rattle.statement_replies.specs.Reply.{refused as told}
 use Rattle.statement_replies.proofs.QueryReplies.{asked_of_breach, asked_of_plan, can_compute, front_of_plan, of_breach, plan_answer}
@@ -45,3 +45,12 @@ returns-in_ok-refuse-in-Err-Rule-clause-asked g c =
 
 pub returns-in_err-refuse-in-Err-Rule-clause-front : goal.returns-in_err-refuse-in-Err-Rule-clause-front
 returns-in_err-refuse-in-Err-Rule-clause-front g c = on_err _ _ (asked_none _ _ _ refl)
+
+pub returns-in_ok-refuse-in-Err-Rule-clause-kept : goal.returns-in_ok-refuse-in-Err-Rule-clause-kept
+returns-in_ok-refuse-in-Err-Rule-clause-kept g c = keeps_still (g.S.ChunkSource.state c.args.source.now)
+
+pub returns-in-Err-Memory-clause-kept : goal.returns-in-Err-Memory-clause-kept
+returns-in-Err-Memory-clause-kept g c = keeps_still (g.S.ChunkSource.state c.args.source.now)
+
+pub returns-in-Err-Memory-clause-front : goal.returns-in-Err-Memory-clause-front
+returns-in-Err-Memory-clause-front g c = asked_none _ _ _ refl

@@ -1,9 +1,11 @@
-use Rattle.std.proofs.Common.{◌∙◌, ◌&&◌, if◌then◌else◌, nat_eq, nat_lt, List, ap, arith}
+use Rattle.std.proofs.Common.{◌∙◌, ◌&&◌, if◌then◌else◌, nat_eq, nat_lt, List, [], ◌∷◌, refl, ap, arith}
 use Rattle.std.specs.List.{list_any}
+use Rattle.store_versions.specs.Entry.TheVariants.{Unpin}
 use Rattle.store_ledger.specs.declared.note.Note.{Note}
 use Rattle.store_ledger.specs.Ledger.{LedgerState, is_tried}
 use Rattle.store_ledger.proofs.Opened.{unpin_fits, unpin_gives, unpin_keeps}
 use Rattle.store_ledger.proofs.Versions.{unpin_room}
+use Rattle.store_ledger.proofs.Parts.{entered}
 use Rattle.store_ledger.proofs.ledger.Ledger.unpin.Goals as goal
 
 pub push_reserved-requires : goal.push_reserved-requires
@@ -29,3 +31,9 @@ invariant_of-self c =
       unpin_room ledger c.args.self.now c.args.pinned i.core.core i.reserved _ _ _ c.push_reserved.new.self.items _ _ c.self.view_is c.self.invariant.0 c.requires
           c.push_reserved.ensures.items c.self.invariant.1 c.unpin.ensures.room,
     )
+
+pub returns : goal.returns
+returns c =
+    let i = c.self.inside in
+    let ledger : LedgerState = record { base = i.base.value; limit = i.limit; entries = i.entries.items; notes = i.notes.items } in
+    entered ledger c.args.self.now c.self.view_is (Unpin c.args.pinned.session ∷ []) c.push_reserved.new.self.items i.notes.items c.push_reserved.ensures.items refl

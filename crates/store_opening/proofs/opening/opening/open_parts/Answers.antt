@@ -1,8 +1,8 @@
-use Rattle.std.proofs.Common.{subst}
+use Rattle.std.proofs.Common.{◌∙◌, ap, subst}
 use Rattle.page_file.specs.FilesOpened.{OpenFile}
 use Rattle.store_opening.specs.Inner.Read.{IsPutTogether}
 use Rattle.store_opening.proofs.Parts.{are_parts, have_found}
-use Rattle.store_opening.proofs.Read.{wrong_so}
+use Rattle.store_opening.proofs.Read.{read_back, wrong_so}
 use Rattle.store_opening.proofs.opening.opening.open_parts.Goals as goal
 
 pub returns-in-Ok-clause-at : goal.returns-in-Ok-clause-at
@@ -22,6 +22,19 @@ returns-in-Ok-clause-told g c =
     let parts = c.put_together.result in
     let together = subst (λ (o : OpenFile _). IsPutTogether moment now o read parts) c.of-opened.ensures c.put_together.ensures in
     have_found moment c.args.file now c.args.limits read parts c.in-Ok.ensures.found together c.requires.opens c.in-Ok.ensures.slots
+
+pub returns-in-Ok-clause-opened : goal.returns-in-Ok-clause-opened
+returns-in-Ok-clause-opened g c = c.put_together.ensures.opened_is ∙ c.of-opened.ensures
+
+pub returns-in-Ok-clause-reads : goal.returns-in-Ok-clause-reads
+returns-in-Ok-clause-reads g c =
+    let now = c.read_parts.new.file in
+    read_back g.D.Disk.moment c.args.file.disk now.disk c.put_together.result.file.disk (ap (λ (f : OpenFile _). f.disk) c.put_together.ensures.file_is)
+    c.in-Ok.ensures.reads
+
+pub returns-in-Err-clause-reads : goal.returns-in-Err-clause-reads
+returns-in-Err-clause-reads g c =
+    read_back g.D.Disk.moment c.args.file.disk c.read_parts.new.file.disk c.close.result c.close.ensures c.in-Err.ensures.reads
 
 pub returns-in-Err-clause-told : goal.returns-in-Err-clause-told
 returns-in-Err-clause-told g c =

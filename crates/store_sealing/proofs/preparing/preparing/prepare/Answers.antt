@@ -1,16 +1,20 @@
-use Rattle.std.proofs.Common.{◌≡◌, ◌∙◌, ◌+◌, ◌≤◌, ◌<◌, ◌^◌, ℕ, Option, length, IfOk, IfSome, sym, ap, subst, arith, rules}
+use Rattle.std.proofs.Common.{◌≡◌, ◌∙◌, ◌+◌, ◌-◌, ◌≤◌, ◌<◌, ◌^◌, ℕ, false, Option, length, IfOk, IfSome, sym, ap, subst, arith, rules}
+use Rattle.std.proofs.lemmas.Result.{IfOk-weaker}
 use Rattle.chunk_map.specs.declared.directory.Directory.{Directory}
+use Rattle.event_core.specs.History.{pin_before}
+use Rattle.event_core.specs.Bases.{sequence_at}
 use Rattle.prepared_commits.specs.Written.{Written}
 use Rattle.prepared_commits.specs.Versions.{draft_of}
-use Rattle.store_ledger.specs.Ledger.{LedgerState}
+use Rattle.store_ledger.specs.Ledger.{LedgerState, history}
 use Rattle.prepared_commits.specs.At.{IsAt, keeping, standing}
-use Rattle.prepared_commits.specs.Standings.{Standing}
+use Rattle.prepared_commits.specs.Standings.{Standing, base_of}
 use Rattle.prepared_commits.specs.Needs.{needs, needs_by, newest_now, next_sequence}
 use Rattle.prepared_commits.specs.Parts.{IsFullFor, IsPreparedAs}
 use Rattle.store_sealing.specs.Left.{IsLeft, tried_now}
-use Rattle.store_sealing.proofs.Before.{before, prepared_for}
+use Rattle.store_sealing.proofs.Before.{before, comes_so, has_next, prepared_for}
 use Rattle.store_sealing.proofs.Fits.{fits_in}
-use Rattle.store_sealing.proofs.Noted.{at_tried}
+use Rattle.store_sealing.proofs.Noted.{at_tried, first_by}
+use Rattle.store_sealing.proofs.Reaped.{room_left}
 use Rattle.store_sealing.proofs.preparing.preparing.prepare.Goals as goal
 
 pub prepared_of-requires-clause-at : goal.prepared_of-requires-clause-at
@@ -75,3 +79,31 @@ pub returns-in-None-clause-at : goal.returns-in-None-clause-at
 returns-in-None-clause-at g c =
     subst (λ (l : LedgerState). IsAt g.D.Disk.moment (standing g.D.Disk.moment (record c.args.parts.now { ledger = l })) (keeping c.args.parts.now)) (sym c.note_tried.ensures.noted)
     (at_tried g.D.Disk.moment (standing g.D.Disk.moment c.args.parts.now) (keeping c.args.parts.now) c.args.session c.args.change c.requires.at)
+
+pub note_tried-requires-clause-first : goal.note_tried-requires-clause-first
+note_tried-requires-clause-first g c =
+    first_by c.args.parts.now.ledger.notes c.args.session (pin_before c.args.session (history c.args.parts.now.ledger)) c.requires.tried
+
+pub prepared_of-requires-clause-comes : goal.prepared_of-requires-clause-comes
+prepared_of-requires-clause-comes g c =
+    comes_so c.in-Some.sequence c.args.change c.args.changed c.in-Ok.written c.in-Ok.ensures.spelled c.requires.asked.comes
+
+pub prepared_of-requires-clause-room : goal.prepared_of-requires-clause-room
+prepared_of-requires-clause-room g c = room_left false c.note_tried.new.self c.note_tried.ensures.room
+
+pub returns-in-Ok-clause-end : goal.returns-in-Ok-clause-end
+returns-in-Ok-clause-end g c =
+    let s = standing g.D.Disk.moment c.args.parts.now in
+    let less : sequence_at (base_of s) (history s.ledger) < 2 ^ 64 - 1 = omega (arith, c.in-Some.ensures.next.0, c.in-Some.ensures.next.1, c.requires.at.kept.slots.sequence) in
+    has_next _ _ c.prepared_of.result c.prepared_of.new.parts.ledger less c.prepared_of.ensures.fits
+
+pub returns-in-Ok-clause-of : goal.returns-in-Ok-clause-of
+returns-in-Ok-clause-of g c =
+    IfOk-weaker c.prepared_of.result _ _ (λ p is. (is.ready.of, λ i. (is.ready.commit i).change)) c.prepared_of.ensures.ok
+
+pub returns-in-Err-clause-left : goal.returns-in-Err-clause-left
+returns-in-Err-clause-left g c =
+    (false, ap (λ (l : LedgerState). standing g.D.Disk.moment (record c.args.parts.now { ledger = l })) c.note_tried.ensures.noted)
+
+pub returns-in-None-clause-left : goal.returns-in-None-clause-left
+returns-in-None-clause-left g c = ap (λ (l : LedgerState). standing g.D.Disk.moment (record c.args.parts.now { ledger = l })) c.note_tried.ensures.noted

@@ -1,4 +1,4 @@
 use Rattle.version_catalog.proofs.catalogs.reading.numbered.Goals as goal
 
-pub returns-clause-one_each : goal.returns-clause-one_each
-returns-clause-one_each c = c.in_ok-numbers.ensures.one_each
+pub returns-in-Ok-versions-clause-one_each : goal.returns-in-Ok-versions-clause-one_each
+returns-in-Ok-versions-clause-one_each c = c.in-Ok-versions.ensures.one_each

@@ -4,7 +4,7 @@ use Rattle.arrayvec.specs.ArrayVec.{ArrayVec}
 use Rattle.array_geom.specs.Geometry.{core_meets}
 use Rattle.plan_needs.specs.Wanted.{wanted_of}
 use Rattle.chunk_source.specs.Source.{IsStored, asks, listed}
-use Rattle.chunk_source.proofs.ReadLemmas.{asked_all, asked_none, front_after, on_err}
+use Rattle.chunk_source.proofs.ReadLemmas.{asked_after, asked_all, asked_none, front_after, keeps_on, on_err, reads_still}
 use Rattle.chunk_source.specs.Inner.Alone.{stand_alone}
 use Rattle.chunk_source.proofs.AssembledLaws.{valid_stored}
 use Rattle.chunk_source.proofs.ReadLaws.{told_by_calls, wanted_among}
@@ -53,3 +53,38 @@ returns-in_err-part_array-clause-front g c =
     on_err _ _ (front_after _ _ (g.S.ChunkSource.state c.args.source.now) (g.S.ChunkSource.state c.listed.new.self) _
     (ap (map (asks c.args.number)) (c.as_slice-4.ensures ∙ c.in_ok-wanted.ensures ∙ ap (wanted_of leaf.schema.dimensions c.args.area.now) (c.as_slice.ensures ∙ c.in_ok-stored.ensures.listed))) c.in_ok-stored.ensures.asked
     (asked_all _ _ _ c.in_ok-chunks.ensures.asked))
+
+pub read_chunks-requires-clause-reads : goal.read_chunks-requires-clause-reads
+read_chunks-requires-clause-reads g c =
+    reads_still (g.S.ChunkSource.state c.args.source.now) (g.S.ChunkSource.state c.listed.new.self) c.args.leaf.now c.in_ok-stored.ensures.kept c.requires.reads
+
+pub returns-clause-asked : goal.returns-clause-asked
+returns-clause-asked g c =
+    let wanted = wanted_of c.args.leaf.now.schema.dimensions c.args.area.now in
+    asked_after _ _ (g.S.ChunkSource.state c.args.source.now) (g.S.ChunkSource.state c.listed.new.self) (g.S.ChunkSource.state c.read_chunks.new.source)
+    (ap (map (asks c.args.number)) (c.as_slice-4.ensures ∙ c.in_ok-wanted.ensures ∙ ap wanted (c.as_slice.ensures ∙ c.in_ok-stored.ensures.listed)))
+    c.in_ok-stored.ensures.asked c.in_ok-chunks.ensures.asked
+
+pub returns-clause-kept : goal.returns-clause-kept
+returns-clause-kept g c =
+    keeps_on (g.S.ChunkSource.state c.args.source.now) (g.S.ChunkSource.state c.listed.new.self) (g.S.ChunkSource.state c.read_chunks.new.source)
+    c.in_ok-stored.ensures.kept c.in_ok-chunks.ensures.kept
+
+pub returns-clause-cause : goal.returns-clause-cause
+returns-clause-cause g c = c.in_ok-chunks.ensures.cause ∙ c.in_ok-stored.ensures.cause
+
+pub returns-clause-start : goal.returns-clause-start
+returns-clause-start g c = c.in_ok-chunks.ensures.start ∙ c.in_ok-stored.ensures.start
+
+pub returns-in_err-chunks-clause-kept : goal.returns-in_err-chunks-clause-kept
+returns-in_err-chunks-clause-kept g c =
+    keeps_on (g.S.ChunkSource.state c.args.source.now) (g.S.ChunkSource.state c.listed.new.self) (g.S.ChunkSource.state c.read_chunks.new.source)
+    c.in_ok-stored.ensures.kept c.in_err-chunks.ensures.kept
+
+pub returns-in_err-part_array-clause-kept : goal.returns-in_err-part_array-clause-kept
+returns-in_err-part_array-clause-kept g c =
+    keeps_on (g.S.ChunkSource.state c.args.source.now) (g.S.ChunkSource.state c.listed.new.self) (g.S.ChunkSource.state c.read_chunks.new.source)
+    c.in_ok-stored.ensures.kept c.in_ok-chunks.ensures.kept
+
+pub returns-in_err-part_array-clause-start : goal.returns-in_err-part_array-clause-start
+returns-in_err-part_array-clause-start g c = c.in_ok-chunks.ensures.start ∙ c.in_ok-stored.ensures.start

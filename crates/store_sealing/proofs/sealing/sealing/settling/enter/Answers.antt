@@ -11,6 +11,9 @@ use Rattle.store_versions.specs.Rows.{directory_in, needed_rows, places_at, rows
 use Rattle.prepared_commits.proofs.Places.{places_are}
 use Rattle.store_sealing.proofs.sealing.sealing.settling.enter.Goals as goal
 
+pub returns-clause-place : goal.returns-clause-place
+returns-clause-place c = ap (λ (es : List Entry). length es) c.entries.ensures
+
 pub returns-clause-rows : goal.returns-clause-rows
 returns-clause-rows c =
     let ledger = c.args.ledger.now in

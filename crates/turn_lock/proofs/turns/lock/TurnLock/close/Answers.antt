@@ -2,9 +2,9 @@ use Rattle.std.proofs.Common.{◌∙◌, ◌++◌, map, ap, sym, subst, length, 
 use Rattle.std.proofs.lemmas.List.{length-map}
 use Rattle.turn_lock.specs.Closings.{claims_of}
 use Rattle.turn_lock.specs.Owners.{AreOwnedBelow, ExtendsByOthers}
-use Rattle.turn_lock.specs.Seats.{claim_of, seat_count, IsSeatOf, IsIdle, AreIdleSeats}
+use Rattle.turn_lock.specs.Seats.{claim_of, first_value, seat_count, IsSeatOf, IsIdle, AreIdleSeats}
 use Rattle.turn_lock.specs.declared.turns.view.Claim.{Claim}
-use Rattle.turn_lock.proofs.Gathering.{all_left, all_last, all_unmapped, gathered}
+use Rattle.turn_lock.proofs.Gathering.{all_left, all_last, all_unmapped, gathered, one_fewer}
 use Rattle.turn_lock.proofs.turns.lock.TurnLock.close.Goals as goal
 
 pub take_back-requires : goal.take_back-requires
@@ -30,3 +30,9 @@ returns-clause-entries g c = let i = c.loop-last.invariant in let all = ap (λ s
 
 pub returns-clause-owned : goal.returns-clause-owned
 returns-clause-owned g c = subst (λ l. AreOwnedBelow g.V.History.owner (seat_count l) (g.V.History.entries c.end.result)) c.loop-last.invariant.same c.end.ensures.owned
+
+pub loop-last-smaller : goal.loop-last-smaller
+loop-last-smaller g c = one_fewer c.pop.new.self c.in-Some.last c.loop-last.seats c.in-Some.ensures
+
+pub returns-clause-origin : goal.returns-clause-origin
+returns-clause-origin g c = c.end.ensures.origin ∙ ap (λ l. g.V.History.origin (first_value l)) c.loop-last.invariant.same

@@ -1,7 +1,8 @@
 use Rattle.std.proofs.Common.{rules, arith, ◌≡◌, ℕ, ◌∷◌, ◌∙◌, ap, sym, length, Some}
 use mathlib.Core.Option.{none}
 use Rattle.atomic_table.specs.Table.{rest, step}
-use Rattle.turn_lock.proofs.OneClaim.{entered}
+use Rattle.turn_lock.specs.Inner.Views.{claims_seeing, first_number}
+use Rattle.turn_lock.proofs.OneClaim.{entered, renewed_length, renewed_number}
 use Rattle.turn_lock.proofs.Steps.{draws}
 use Rattle.turn_lock.proofs.turns.lock.TurnLock.enter.Goals as goal
 
@@ -26,4 +27,11 @@ returns g c = let h = g.V.History in
       origin = (e.from _ c.requires.seat.0.1).1;
       entries = e.extends;
       seen = e.seen;
+    }
+
+pub invariant_of-seat : goal.invariant_of-seat
+invariant_of-seat g c = let old = c.args.seat.now.seat.me.0.claims in let turn = c.wait.ensures.turn in let xs = g.V.History.entries turn.0 in
+    let claims = ap (λ m. m.0.claims) c.exchange.ensures.3 ∙ turn.3 ∙ ap (claims_seeing xs) c.fetch_add-ticket.ensures.2.3 in record {
+      one = ap length claims ∙ renewed_length xs old ∙ c.args.seat.now.one;
+      numbered = ap first_number claims ∙ renewed_number xs old ∙ c.args.seat.now.numbered;
     }

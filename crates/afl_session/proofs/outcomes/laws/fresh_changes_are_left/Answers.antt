@@ -1,5 +1,0 @@
-use Rattle.afl_session.proofs.Freshly.{fresh_changes_are_left_since}
-use Rattle.afl_session.proofs.outcomes.laws.fresh_changes_are_left.Goals as goal
-
-pub returns : goal.returns
-returns g c = fresh_changes_are_left_since _

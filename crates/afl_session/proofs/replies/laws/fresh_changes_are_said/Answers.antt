@@ -1,5 +1,0 @@
-use Rattle.afl_session.proofs.FreshReplies.{fresh_changes_are_said}
-use Rattle.afl_session.proofs.replies.laws.fresh_changes_are_said.Goals as goal
-
-pub returns : goal.returns
-returns g c = fresh_changes_are_said g.D.Disk.moment

@@ -1,6 +1,0 @@
-use Rattle.afl_session.proofs.BehindPins.{pins_change_nothing}
-use Rattle.afl_session.proofs.PinPlaces.{open_pins_are_entered}
-use Rattle.afl_session.proofs.replies.laws.pins_are_entered.Goals as goal
-
-pub returns : goal.returns
-returns g c = record { entered = open_pins_are_entered _; behind = pins_change_nothing _ }

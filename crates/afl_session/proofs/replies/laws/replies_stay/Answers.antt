@@ -1,6 +1,0 @@
-use Rattle.afl_session.proofs.ActsJoined.{acts_join}
-use Rattle.afl_session.proofs.Staying.{replies_stay}
-use Rattle.afl_session.proofs.replies.laws.replies_stay.Goals as goal
-
-pub returns : goal.returns
-returns g c = record { acts = acts_join; stay = replies_stay g.D.Disk.moment }

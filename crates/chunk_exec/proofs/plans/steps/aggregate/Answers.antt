@@ -1,0 +1,14 @@
+use Rattle.std.proofs.Common.{ℕ, List, subst}
+use Rattle.std.specs.Prelude.{IfOk}
+use Rattle.array_geom.specs.Link.{Is}
+use Rattle.array_parts.specs.Cores.{meant_by_cores}
+use Rattle.exec_group.specs.Meant.{aggregate_meant}
+use Rattle.logical_plan.specs.declared.parts.Aggregate.{Aggregate}
+use Rattle.chunk_exec.proofs.plans.steps.aggregate.Goals as goal
+
+pub returns : goal.returns
+returns g c =
+    let array = c.args.array in
+    subst (λ (first : List Aggregate). IfOk c.aggregate.result (λ made. Is made (aggregate_meant first c.args.places.now (meant_by_cores array)))) c.as_slice.ensures
+    (subst (λ (second : List ℕ). IfOk c.aggregate.result (λ made. Is made (aggregate_meant c.as_slice.result.now second (meant_by_cores array)))) c.as_slice-2.ensures
+    c.aggregate.ensures.array)

@@ -1,0 +1,195 @@
+//! Answers in a turn that is held.
+ghost use Rattle.std.specs.Prelude.{◌≡◌, ◌≤◌, false, length, Ok as Good, IsTrue};
+ghost use Rattle.check_exprs.specs.Laws.{leaves_fit};
+ghost use Rattle.plan_changes.specs.declared.change.Change.{Change};
+ghost use Rattle.plan_changes.specs.Stored.{AreStored};
+ghost use Rattle.afl_types.specs.Checking.{check_of};
+ghost use Rattle.afl_types.specs.declared.types.statements.checking.Typed.TheVariants.{Change as AChange};
+ghost use Rattle.event_core.specs.Allowed.{is_pinned};
+ghost use Rattle.store_ledger.specs.Ledger.{history, is_noted, is_tried};
+ghost use Rattle.store_state.specs.At.{standing};
+ghost use Rattle.store_state.specs.Events.{events};
+ghost use Rattle.snapshot_manager.specs.Starts.{start_of};
+ghost use Rattle.snapshot_manager.specs.Databases.{HasDatabase};
+ghost use Rattle.session_sources.specs.Held.{names_now};
+ghost use Rattle.snapshot_manager.specs.Prepared.{IsAsked};
+ghost use Rattle.snapshot_manager.specs.Seats.{ledger_seen, read_count, seen, start, store_of, HasTurn, HoldsPin, IsIdle, IsSameSeat, IsSeatOf};
+ghost use Rattle.snapshot_manager.specs.Told.{IsTold};
+ghost use Rattle.session_answers.specs.Inner.Turns.{store_in, Goes, IsTried, KeepsTurn, TellsCommit};
+ghost use Rattle.session_answers.specs.AnsweredUnder.{IsAnsweredInTurn};
+
+use crate::replies::{Reply, at_place, uncommitted, unread, want};
+use crate::turns::settings::Options;
+use afl_outside::{Disk, Gate};
+use afl_trees::Tree;
+use array_geom::Changed;
+use cell_values::Memory;
+use logical_plan::Names;
+use plan_changes::Change;
+use session_sources::HeldSource;
+use snapshot_manager::{CommitFault, Seat, Shared, StoreTurn, commit};
+use statement_replies::{Outcome, Reply as Words, let_go_reply, outcome_of};
+use std::alloc::Global;
+use std::sync::Wait;
+use std::thread::Threads;
+use store_ledger::Pinned;
+
+/// Answers a statement over the store of a turn that its seat holds, and ends the turn. Under the pin the statement was a change.
+pub fn answer_held<D: Disk, R: Threads + Wait + Sync, G: Gate>(
+    rt: &R,
+    alloc: Global,
+    shared: &Shared<D>,
+    seat: Seat<D>,
+    turn: StoreTurn<D>,
+    pinned: &Pinned,
+    text: &[u8],
+    tree: &Tree,
+    options: &Options,
+    gate: &G,
+) -> (Reply, Seat<D>)
+    requires seat { IsSeatOf shared.now seat × HasTurn seat turn }
+    requires start { start_of (standing D.moment (store_of turn)) ≡ start D.moment shared.now }
+    requires events { events (standing D.moment (store_of turn)) ≡ seen seat }
+    requires held { IsTold (start D.moment shared.now) (seen seat) (standing D.moment (store_of turn)) }
+    requires pin { HoldsPin D.moment shared.now seat pinned.now }
+    requires tried { is_noted is_tried (ledger_seen D.moment shared.now seat) pinned.now.session ≡ false }
+    requires change { (change : Change) × (check_of tree.now text.now pinned.now.names ≡ Good (AChange change)) }
+    requires fit { IsTrue (leaves_fit tree.now) }
+    requires workers { (1 ≤ options.now.workers) × (options.now.workers ≤ 64) }
+    ensures seat { IsSeatOf shared.now result.1 × IsIdle result.1 }
+    ensures same { IsSameSeat seat result.1 }
+    ensures reads { read_count result.1 ≡ read_count seat }
+    ensures pin { HoldsPin D.moment shared.now result.1 pinned.now }
+    ensures answered { IsAnsweredInTurn options.now.style D.moment (start D.moment shared.now) pinned.now.session pinned.now.place
+        (seen seat) (seen result.1) text.now tree.now result.0 }
+{
+    let mut seat = seat;
+    let mut turn = turn;
+    turn.value().is_at();
+    let (reply, mut turn) = answer_in_turn(
+        rt,
+        alloc,
+        turn,
+        pinned.session,
+        text,
+        tree,
+        options,
+        gate,
+    );
+    turn.value().is_at();
+    shared.end_turn(rt, &mut seat, turn);
+    (reply, seat)
+}
+
+/// Answers a statement of a session over the store of a turn.
+fn answer_in_turn<D: Disk, R: Threads + Sync, G: Gate>(
+    rt: &R,
+    alloc: Global,
+    turn: StoreTurn<D>,
+    session: u32,
+    text: &[u8],
+    tree: &Tree,
+    options: &Options,
+    gate: &G,
+) -> (Reply, StoreTurn<D>)
+    requires pinned { IsTrue (is_pinned session (history (store_of turn).ledger)) }
+    requires tried { is_noted is_tried (store_of turn).ledger session ≡ false }
+    requires database { HasDatabase D.moment (store_in D.moment turn) (length (store_of turn).ledger.entries) (names_now (store_of turn).ledger) }
+    requires fit { IsTrue (leaves_fit tree.now) }
+    requires workers { (1 ≤ options.now.workers) × (options.now.workers ≤ 64) }
+    ensures keeps { KeepsTurn D.moment session turn result.1 }
+    ensures goes { Goes options.now.style D.moment session turn result.1 text.now tree.now result.0 }
+{
+    let mut turn = turn;
+    let store = turn.value();
+    let place = store.history().len() as u64;
+    match store.names().copy() {
+        Ok(names) => answer_over(rt, alloc, turn, session, text, tree, &names, options, gate),
+        Err(Memory) => (want(alloc, place), turn),
+    }
+}
+
+/// Answers a statement over the store of a turn, whose names these are.
+fn answer_over<D: Disk, R: Threads + Sync, G: Gate>(
+    rt: &R,
+    alloc: Global,
+    turn: StoreTurn<D>,
+    session: u32,
+    text: &[u8],
+    tree: &Tree,
+    names: &Names,
+    options: &Options,
+    gate: &G,
+) -> (Reply, StoreTurn<D>)
+    requires pinned { IsTrue (is_pinned session (history (store_of turn).ledger)) }
+    requires tried { is_noted is_tried (store_of turn).ledger session ≡ false }
+    requires database { HasDatabase D.moment (store_in D.moment turn) (length (store_of turn).ledger.entries) (names_now (store_of turn).ledger) }
+    requires names { names.now ≡ names_now (store_of turn).ledger }
+    requires stored { AreStored names.now }
+    requires fit { IsTrue (leaves_fit tree.now) }
+    requires workers { (1 ≤ options.now.workers) × (options.now.workers ≤ 64) }
+    ensures keeps { KeepsTurn D.moment session turn result.1 }
+    ensures goes { Goes options.now.style D.moment session turn result.1 text.now tree.now result.0 }
+{
+    let mut source = HeldSource::new(alloc, turn, session);
+    let outcome = outcome_of(
+        rt,
+        alloc,
+        text,
+        tree,
+        names,
+        &mut source,
+        options.style,
+        options.workers,
+        session,
+        gate,
+    );
+    let mut turn = source.into_turn();
+    let place = turn.value().history().len() as u64;
+    match outcome {
+        Ok(Outcome::Replied(words)) => (at_place(words, place), turn),
+        Ok(
+            Outcome::Changes {
+                change,
+                changed,
+                reply,
+            },
+        ) => commit_in_turn(alloc, turn, session, change, changed, reply),
+        Err(fault) => (unread(alloc, fault, place), turn),
+    }
+}
+
+/// Commits a change of a session in a turn. These words tell that it is made.
+fn commit_in_turn<D: Disk>(
+    alloc: Global,
+    turn: StoreTurn<D>,
+    session: u32,
+    change: Change,
+    changed: Option<Changed>,
+    words: Words,
+) -> (Reply, StoreTurn<D>)
+    requires pinned { IsTrue (is_pinned session (history (store_of turn).ledger)) }
+    requires tried { is_noted is_tried (store_of turn).ledger session ≡ false }
+    requires asked { IsAsked D.moment (store_in D.moment turn) change changed }
+    ensures keeps { KeepsTurn D.moment session turn result.1 }
+    ensures tried { IsTried D.moment session change words (store_in D.moment turn) (store_in D.moment result.1) result.0 }
+{
+    let mut turn = turn;
+    let store = turn.value();
+    let answer = commit(alloc, store, session, change, changed);
+    let count = store.history().len() as u64;
+    (tell_commit(alloc, answer, words, count), turn)
+}
+
+/// The reply to a commit that was tried, where the store then has so many entries.
+fn tell_commit(alloc: Global, answer: Result<u64, CommitFault>, words: Words, count: u64) -> Reply
+    ensures { TellsCommit count words answer result }
+{
+    match answer {
+        Ok(place) => at_place(words, place),
+        Err(fault) => {
+            let_go_reply(words);
+            uncommitted(alloc, fault, count)
+        }
+    }
+}

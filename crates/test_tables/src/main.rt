@@ -1,0 +1,81 @@
+//! Prints what comes of tables of cases: of calls on values, of texts, of files, catalogues and sources, and of runs of the program's top call
+//! and of commits, turns and threads below it.
+//!
+//! Standard input has the tables, each behind a line that begins with `### ` and has its title. Each title is printed with what the library
+//! that knows it makes of the lines.
+#![tactic(auto)]
+
+use anyhow::Result;
+use cell_values::Memory;
+use std::io::Read;
+use std::str::from_utf8;
+use std::sync::Wait;
+use std::thread::Threads;
+use std::time::Clock;
+use test_catalogs::push_catalog_table;
+use test_commits::push_commit_table;
+use test_language::push_language_table;
+use test_pages::tell_page_table;
+use test_runs::push_run_table;
+use test_sources::push_source_table;
+use test_values::push_value_table;
+
+/// Adds the title of a table, and what comes of its lines.
+fn push_table<R: AllocGlobal + Threads + Wait + Clock + Sync>(
+    rt: &R,
+    out: &mut String,
+    title: &str,
+    lines: &[u8],
+) -> Result<(), Memory> {
+    let text = from_utf8(lines).unwrap_or("");
+    push_value_table(out, title, text)?;
+    push_language_table(out, title, lines)?;
+    push_catalog_table(out, title, text)?;
+    push_source_table(rt, out, title, text)?;
+    push_run_table(rt, out, title, text)?;
+    push_commit_table(rt, out, title, text)
+}
+
+/// Prints the title of a table, and what comes of its lines.
+fn tell_table<R: AllocGlobal + Print + Threads + Wait + Clock + Sync>(
+    rt: &R,
+    title: &[u8],
+    lines: &[u8],
+) -> Result<()> {
+    let title = from_utf8(title).unwrap_or("");
+    let mut out = String::new(rt.alloc());
+    let printed = match push_table(rt, &mut out, title, lines) {
+        Ok(()) => print!(rt; "{out}"),
+        Err(Memory) => println!(rt; "no memory"),
+    };
+    drop(out);
+    printed?;
+    tell_page_table(rt, title)
+}
+
+/// Prints what comes of each table.
+fn tell_tables<R: AllocGlobal + Print + Threads + Wait + Clock + Sync>(
+    rt: &R,
+    text: &[u8],
+) -> Result<()> {
+    let mut title: &[u8] = &[];
+    let mut start = 0usize;
+    let mut end = 0usize;
+    for line in text.split_inclusive(|byte| *byte == b'\n') {
+        let behind = end.saturating_add(line.len());
+        if let Some(next) = line.strip_prefix(b"### ".as_slice()) {
+            tell_table(rt, title, text.get(start..end).unwrap_or(&[]))?;
+            title = next.strip_suffix(b"\n".as_slice()).unwrap_or(next);
+            start = behind;
+        }
+        end = behind;
+    }
+    tell_table(rt, title, text.get(start..).unwrap_or(&[]))
+}
+
+fn main(rt: HostRuntime) -> Result<()> {
+    let mut input = rt.reader();
+    let mut text = Vec::new(rt.alloc());
+    input.read_to_end(&mut text)?;
+    tell_tables(&rt, text.as_slice())
+}
