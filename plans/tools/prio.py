@@ -26,7 +26,7 @@ while True:
         elif cwd.startswith('/work/clones/') or '/lab' in cwd:
             who=cwd.split('/')[3] if cwd.startswith('/work/clones/') else cwd.split('/')[2]
             fast=open('/tmp/fast').read().split()
-            if who in fast: setn(p,int(open('/tmp/fastnice').read()))
+            if (who in fast or who.split('-')[0] in fast): setn(p,int(open('/tmp/fastnice').read()))
             elif 'rattle' in cmd: setn(p,0)
         elif '/tmp/docs' in cmd or '/tmp/docs' in cwd: setn(p,-9)
     time.sleep(2)
