@@ -1,14 +1,14 @@
 //! Work on many pieces, some of them at a time.
 ghost use Rattle.std.specs.Prelude.{◌≡◌, ◌<◌, ◌≤◌, ◌+◌, ◌-◌, ◌^◌, ◌++◌, [], ◌∷◌, length, map, min, take, drop, IfOk, OnOk, MatchResult};
-ghost use Rattle.std.specs.List.{AllByRecursion, AllZip};
-ghost use denote.Param.Send.{IsSend, IsSync};
+ghost use Rattle.std.specs.List.{AllByRecursion, AllZip, flat_map};
 
 use crate::crew::Crew;
 use crate::share::{share, worth};
 use crate::work::Work;
 use afl_outside::{Gate, Point};
 use cell_values::{List, Memory};
-use std::thread::{Threads, join};
+use std::alloc::{AllocError, Global};
+use std::thread::{Threads, map_vec};
 
 /// About how many cells pieces are the work of.
 fn size_of_all<P, M, W: Work<P, M>>(pieces: &[P], work: &W) -> usize
@@ -110,8 +110,82 @@ fn with_others<M: Drop>(made: List<M>, others: Result<List<M>, Memory>) -> Resul
     }
 }
 
-/// What becomes of each piece, where each thread has a run of the pieces.
-#[cycle(workers)]
+/// Pieces that one thread works on, one after the other; the first one's number is `first`.
+#[derive(Drop)]
+struct Run<P> {
+    first: u64,
+    pieces: List<P>,
+}
+
+/// Adds a run of the pieces for each worker, in the order of the pieces; the first one's number is `first`.
+fn add_runs<P: Drop>(
+    runs: &mut List<Run<P>>,
+    pieces: List<P>,
+    workers: u32,
+    first: u64,
+) -> Result<(), Memory>
+    ensures { OnOk result (flat_map (λ run. run.pieces) runs.new ≡ flat_map (λ run. run.pieces) runs.old ++ pieces) }
+{
+    if workers < 2 {
+        return runs.push(Run { first, pieces });
+    }
+    let few = workers / 2;
+    let at = share(pieces.len(), few, workers);
+    let (low, high) = cut(pieces, at)?;
+    match add_runs(runs, low, few, first) {
+        Ok(()) => add_runs(runs, high, workers - few, first.wrapping_add(at as u64)),
+        Err(Memory) => {
+            drop(high);
+            Err(Memory)
+        }
+    }
+}
+
+/// A run of the pieces for each worker, in the order of the pieces.
+fn in_runs<P: Drop>(pieces: List<P>, workers: u32, first: u64) -> Result<Vec<Run<P>>, Memory>
+    ensures { IfOk result (λ runs. flat_map (λ run. run.pieces) runs.items ≡ pieces) }
+{
+    let mut runs = pieces.another();
+    add_runs(&mut runs, pieces, workers, first)?;
+    Ok(runs.into_vec())
+}
+
+/// What becomes of the pieces of each run, which may have a thread of its own.
+fn worked<R: Threads + Sync, P: Send + Drop, M: Send + Drop, W: Work<P, M>, G: Gate>(
+    rt: &R,
+    runs: Vec<Run<P>>,
+    work: &W,
+    session: u32,
+    gate: &G,
+) -> Result<Vec<Result<List<M>, Memory>>, AllocError>
+    requires { AllByRecursion (λ run. AllByRecursion (W.accepts work.now) run.pieces) runs.items }
+    ensures { IfOk result (λ parts. AllZip (λ run part. IfOk part (AllZip (W.gives work.now) run.pieces)) runs.items parts.items) }
+{
+    let each = move |run: Run<P>| -> Result<List<M>, Memory>
+        requires { AllByRecursion (W.accepts work.now) run.pieces }
+        ensures { IfOk result (AllZip (W.gives work.entry.now) run.pieces) }
+    {
+        let Run { first, pieces } = run;
+        in_turn(pieces, work, first, session, gate)
+    };
+    map_vec(rt, runs, &each)
+}
+
+/// What became of the pieces of all runs, one behind the other.
+fn all_joined<M: Drop>(
+    alloc: Global,
+    parts: Vec<Result<List<M>, Memory>>,
+) -> Result<List<M>, Memory>
+    ensures { IfOk result (λ made. (lists : _) × (parts.items ≡ map (λ list. Ok list) lists) × (made ≡ flat_map (λ list. list) lists)) }
+{
+    let mut all: Result<List<M>, Memory> = Ok(List::new(alloc));
+    for part in parts {
+        all = joined(all, part);
+    }
+    all
+}
+
+/// What becomes of each piece, where each worker has a run of the pieces.
 fn in_parts<R: Threads + Sync, P: Send + Drop, M: Send + Drop, W: Work<P, M>, G: Gate>(
     rt: &R,
     pieces: List<P>,
@@ -124,24 +198,13 @@ fn in_parts<R: Threads + Sync, P: Send + Drop, M: Send + Drop, W: Work<P, M>, G:
     requires { AllByRecursion (W.accepts work.now) pieces }
     ensures { IfOk result (AllZip (W.gives work.now) pieces) }
 {
-    if workers < 2 || pieces.len() < 2 {
+    if workers < 2 {
         return in_turn(pieces, work, first, session, gate);
     }
-    let few = workers / 2;
-    let many = workers - few;
-    let at = share(pieces.len(), few, workers);
-    let second = first.wrapping_add(at as u64);
-    let (low, high) = cut(pieces, at)?;
-    let front = move || -> Result<List<M>, Memory>
-        requires { IsSync R.row × IsSync W.row × IsSync G.row × IsSend P.row × IsSend M.row × AllByRecursion (W.accepts work.now) low }
-        ensures { IfOk result (AllZip (W.gives work.entry.now) low) }
-    { in_parts(rt, low, few, work, first, session, gate) };
-    let back = move || -> Result<List<M>, Memory>
-        requires { IsSync R.row × IsSync W.row × IsSync G.row × IsSend P.row × IsSend M.row × AllByRecursion (W.accepts work.now) high }
-        ensures { IfOk result (AllZip (W.gives work.entry.now) high) }
-    { in_parts(rt, high, many, work, second, session, gate) };
-    let (a, b) = join(rt, front, back);
-    joined(a, b)
+    let alloc = pieces.allocator();
+    let runs = in_runs(pieces, workers, first)?;
+    let parts = worked(rt, runs, work, session, gate)?;
+    all_joined(alloc, parts)
 }
 
 /// What becomes of each piece, in the order of the pieces. At most as many threads as the crew has workers are at work, the caller's

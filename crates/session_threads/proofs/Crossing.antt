@@ -1,6 +1,12 @@
 -- A seat may go to another thread, and a store that is shared may be seen by several, where its disk may go.
+use mathlib.Core.List.{[], ◌∷◌}
+use mir.Syntax.{Sym}
 use denote.RattleType.{RattleType}
-use denote.Param.Send.{IsSend, IsSync, sendable}
+use denote.Enum.Declared as variants
+use denote.Enum.Enum.{Enum}
+use denote.Param.Send.{enum_send, recorded_send, recorded_sync, struct_send, struct_sync, IsSend, IsSync, sendable}
+use denote.Struct.Declared.{row, shape, Declared}
+use denote.Struct.Tuple.{type_at}
 use Rattle.std.proofs.Crossing.{crosses}
 use Rattle.atomic_table.proofs.shared.Seat.TheSendSync.{the_send}
 use Rattle.atomic_table.proofs.shared.Shared.TheSendSync.{the_sync}
@@ -24,7 +30,18 @@ use Rattle.result_print.specs.contracts.refusal.Refusal as refusal
 use Rattle.run_opening.specs.contracts.reports.reports.Mark as mark
 use Rattle.run_opening.specs.contracts.reports.reports.SessionReport as report
 use Rattle.run_opening.specs.contracts.reports.reports.Streams as streams
+use Rattle.session_answers.specs.contracts.turns.settings.Options as options
 use Rattle.session_threads.specs.contracts.desk.Desk as desk
+
+-- what a closure captures may cross where each captured part may
+pub three_send : (name : Sym) (A B C : RattleType) → IsSend A → IsSend B → IsSend C → IsSend (row (type_at name (A ∷ B ∷ C ∷ [])))
+three_send name A B C a b c =
+    let T : Declared = type_at name (A ∷ B ∷ C ∷ []) in recorded_send _ T.D T.to T.to_one (struct_send (shape T) (a, (b, (c, tt))))
+
+pub five_sync : (name : Sym) (A B C D E : RattleType) → IsSync A → IsSync B → IsSync C → IsSync D → IsSync E →
+    IsSync (row (type_at name (A ∷ B ∷ C ∷ D ∷ E ∷ [])))
+five_sync name A B C D E a b c d e =
+    let T : Declared = type_at name (A ∷ B ∷ C ∷ D ∷ E ∷ []) in recorded_sync _ T.D T.to T.to_one (struct_sync (shape T) (a, (b, (c, (d, (e, tt))))))
 
 -- each by a search of its own, since a search for the whole spends its steps before it comes through
 
@@ -62,12 +79,12 @@ module _ (D : RattleType) (g : Ghosts D.Denot) (s : IsSend D) where
   pub shared_sync : IsSync (shared.the_row D g)
   shared_sync = search (sendable, crosses, the_sync, lease.the_sync, store_send) depth 40 fits 100000
 
-  -- the same where they are fields
-  pub seat_field_send : IsSend (seat.the_field D g).row
+  -- the same where it is a field
+  seat_field_send : IsSend (seat.the_field D g).row
   seat_field_send = search (sendable, crosses, the_send, store_send) depth 40
 
-  pub shared_field_sync : IsSync (shared.the_field D g).row
-  shared_field_sync = search (sendable, crosses, the_sync, lease.the_sync, store_send) depth 40 fits 100000
+pub options_sync : IsSync options.the_row
+options_sync = search (sendable, crosses) depth 40
 
 splitter_send : IsSend splitter.the_row
 splitter_send = search (sendable, crosses) depth 40 fits 100000
@@ -87,4 +104,8 @@ module _ (S K : RattleType) (s : IsSend S) (k : IsSend K) where
 
 module _ (D S K : RattleType) (g : Ghosts D.Denot) (d : IsSend D) (s : IsSend S) (k : IsSend K) where
   pub desk_send : IsSend (desk.the_row D S K g)
-  desk_send = search (sendable, crosses, seat_field_send, streams_field, report_field) depth 40
+  desk_send =
+      let T = desk.the_type D S K g in
+      let seat = seat_field_send D g d in
+      recorded_send (Enum (variants.shape T)) T.D T.to T.to_one
+      (enum_send (variants.shape T) ((seat, (streams_field S K s k, tt)), (tt, ((seat, (report_field S K s k, tt)), tt))))

@@ -126,6 +126,11 @@ module _ {D S K : Type 0} (style : Style) (moment : D → Moment) (source_of : S
       let low : k < length old = omega arith in
       done_one k (slice_get all k) (get_or old k desk) (get_or new k desk) (are k desk low) (worked k desk low)
 
+  -- the sessions of new seats have worked, each at its desk
+  pub done_by : (seats : List (Seat D)) (all : List (Streams S K)) (old new : List (Desk D S K)) → AreNewSeats shared seats → AreSeated seats all old →
+      AllWorked style moment source_of sink_of shared old new → length new ≡ length old → AreDone style moment source_of sink_of shared all new
+  done_by seats all old new fresh seated worked len = all_done all old new (all_ready shared seats all old fresh seated) worked len
+
   -- what for_each_mut did to a vector, whose items it was lent
   pub all_worked : (old was new : List (Desk D S K)) (count : ℕ) → was ≡ old → length new ≡ length was → count ≡ length old →
       ((k : ℕ) (desk : Desk D S K) → k < length was → HasWorked style moment source_of sink_of shared (get_or was k desk) (get_or new k desk)) →

@@ -1,6 +1,6 @@
 //! Where a session's seat and its streams lie, so that threads can work side by side.
-ghost use Rattle.std.specs.Prelude.{◌≡◌, ◌≤◌, vec_len, All};
-ghost use Rattle.session_threads.specs.Inner.Desks.{AllWorked, HasEnded, HasWorked, IsWaiting};
+ghost use Rattle.std.specs.Prelude.{◌≡◌, vec_len};
+ghost use Rattle.session_threads.specs.Inner.Desks.{AllWorked, CanBegin, CanWork, HasEnded, HasWorked};
 ghost use Rattle.session_threads.specs.declared.desk.Desk.TheVariants.{Done};
 
 use afl_outside::{Disk, Gate, Sink, Source};
@@ -37,8 +37,7 @@ impl<D: Disk + Drop, S: Source + Drop, K: Sink + Drop> Desk<D, S, K> {
         options: &Options,
         gate: &G,
     )
-        requires waiting { IsWaiting shared.now self.old }
-        requires workers { (1 ≤ options.now.workers) × (options.now.workers ≤ 64) }
+        requires { CanBegin shared.now options.now.workers self.old }
         ensures { HasWorked options.now.style D.moment S.state K.state shared.now self.old self.new }
     {
         match replace(self, Desk::Working) {
@@ -73,7 +72,7 @@ impl<D: Disk + Drop, S: Drop, K: Drop> Desk<D, S, K> {
     }
 }
 
-/// Each session works on a thread of its own. Where no thread can be made, one works after another.
+/// Each session works on a thread of its own. Where no thread can be made, one works after another. Then the bell is closed.
 pub(crate) fn work_all<
     D: Disk + Send + Drop,
     S: Source + Send + Drop,
@@ -88,16 +87,16 @@ pub(crate) fn work_all<
     gate: &G,
     mut desks: Vec<Desk<D, S, K>>,
 ) -> Vec<Desk<D, S, K>>
-    requires desks { All (λ desk. IsWaiting shared.now desk) desks.items }
-    requires workers { (1 ≤ options.now.workers) × (options.now.workers ≤ 64) }
+    requires { CanWork shared.now options.now.workers desks.items }
     ensures desks { AllWorked options.now.style D.moment S.state K.state shared.now desks.items result.items }
     ensures count { vec_len result ≡ vec_len desks }
 {
     let threads = desks.len().max(1);
     let each = |_: usize, desk: &mut Desk<D, S, K>|
-        requires { IsWaiting shared.now desk.now × (1 ≤ options.now.workers) × (options.now.workers ≤ 64) }
+        requires { CanBegin shared.now options.now.workers desk.now }
         ensures { HasWorked options.entry.now.style D.moment S.state K.state shared.entry.now desk.entry.now desk.exit.now }
     { desk.work(rt, alloc, shared, options, gate) };
     thread::for_each_mut(rt, desks.as_mut_slice(), threads, &each);
+    shared.close_bell(rt);
     desks
 }

@@ -1,18 +1,15 @@
 //! The reaper: a thread beside the sessions, which frees the pages that nobody can name.
-ghost use Rattle.std.specs.Prelude.{◌≡◌, ◌≤◌, vec_len, All};
+ghost use Rattle.std.specs.Prelude.{◌≡◌, vec_len};
 ghost use Rattle.snapshot_manager.specs.Seats.{session_of};
-ghost use Rattle.session_threads.specs.Inner.Desks.{AllWorked, IsReaper, IsWaiting};
+ghost use Rattle.session_threads.specs.Inner.Desks.{AllWorked, CanWork, IsReaper};
 
 use crate::desk::{Desk, work_all};
 use afl_outside::{Disk, Gate, Sink, Source};
 use afl_session::Options;
 use snapshot_manager::{Seat, Shared};
 use std::alloc::Global;
-use std::snapshot::Snapshot;
 use std::sync::Wait;
-use std::thread;
-use std::thread::{Promise, Threads};
-use store_ledger::let_go_seen;
+use std::thread::{Threads, join};
 use turn_lock::Ring;
 
 /// Reaps once. Where no memory is found for that, the pages wait for a later reap, or for the next opening of the file.
@@ -37,24 +34,6 @@ fn keep<D: Disk, R: Wait>(rt: &R, shared: &Shared<D>, mut seat: Seat<D>) -> Seat
     unreachable!()
 }
 
-/// The seat that the reaper gives back is that of the same session, and has done nothing but reap.
-struct SeatBack<D: Disk> {
-    shared: Snapshot<Shared<D>>,
-    seat: Snapshot<Seat<D>>,
-}
-
-impl<D: Disk> Drop for SeatBack<D> {
-    fn drop(self) {
-        let SeatBack { shared, seat } = self;
-        let_go_seen(shared);
-        let_go_seen(seat);
-    }
-}
-
-impl<D: Disk> Promise<Seat<D>> for SeatBack<D> {
-    ghost kept_by = { λ p seat. IsReaper p.shared.value (session_of p.seat.value) seat };
-}
-
 /// The sessions work, each on a thread of its own, and the reaper beside them. Where no thread can be made for the reaper,
 /// it comes after them.
 pub(crate) fn work_beside<
@@ -72,39 +51,22 @@ pub(crate) fn work_beside<
     desks: Vec<Desk<D, S, K>>,
     own: Seat<D>,
 ) -> (Vec<Desk<D, S, K>>, Seat<D>)
-    requires desks { All (λ desk. IsWaiting shared.now desk) desks.items }
+    requires desks { CanWork shared.now options.now.workers desks.items }
     requires own { IsReaper shared.now (session_of own) own }
-    requires workers { (1 ≤ options.now.workers) × (options.now.workers ≤ 64) }
     ensures desks { AllWorked options.now.style D.moment S.state K.state shared.now desks.items result.0.items }
     ensures count { vec_len result.0 ≡ vec_len desks }
     ensures own { IsReaper shared.now (session_of own) result.1 }
 {
-    thread::scope(
-        thread::scope_env(),
-        rt,
-        move |scope| -> (Vec<Desk<D, S, K>>, Seat<D>)
-            requires { All (λ desk. IsWaiting shared.now desk) desks.items × IsReaper shared.now (session_of own) own
-                × (1 ≤ options.now.workers) × (options.now.workers ≤ 64) }
-            ensures desks { AllWorked options.entry.now.style D.moment S.state K.state shared.entry.now desks.items result.0.items }
-            ensures count { vec_len result.0 ≡ vec_len desks }
-            ensures own { IsReaper shared.entry.now (session_of own) result.1 }
-        {
-            let reaper = scope.spawn_with(
-                SeatBack {
-                    shared: Snapshot::of(shared),
-                    seat: Snapshot::of(&own),
-                },
-                move || -> Seat<D>
-                    requires { IsReaper shared.now (session_of own) own }
-                    ensures { IsReaper shared.entry.now (session_of own) result }
-                { keep(rt, shared, own) },
-            );
-            let desks = work_all(rt, alloc, shared, options, gate, desks);
-            shared.close_bell(rt);
-            match reaper {
-                Ok(thread) => (desks, thread.join(rt)),
-                Err(refused) => (desks, (refused.value)()),
-            }
-        },
-    )
+    let reaper = move || -> Seat<D>
+        requires { IsReaper shared.now (session_of own) own }
+        ensures { IsReaper shared.entry.now (session_of own) result }
+    { keep(rt, shared, own) };
+    let sessions = move || -> Vec<Desk<D, S, K>>
+        requires { CanWork shared.now options.now.workers desks.items }
+        ensures desks { AllWorked options.entry.now.style D.moment S.state K.state shared.entry.now desks.items result.items }
+        ensures count { vec_len result ≡ vec_len desks }
+    { work_all(rt, alloc, shared, options, gate, desks) };
+    // Where no thread can be made `join` runs its second closure first, and the reaper then finds the bell closed.
+    let (own, desks) = join(rt, reaper, sessions);
+    (desks, own)
 }

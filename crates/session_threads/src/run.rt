@@ -1,10 +1,10 @@
 //! All sessions, from their streams to their reports.
-ghost use Rattle.std.specs.Prelude.{◌≡◌, ◌≤◌, ◌<◌, ◌+◌, [], length, slice_get, vec_len, vec_capacity, IfErr, IfOk, All, List, Some};
+ghost use Rattle.std.specs.Prelude.{◌≡◌, ◌≤◌, ◌+◌, [], length, slice_get, vec_len, vec_capacity, IfErr, IfOk, All, List, Some};
 ghost use Rattle.afl_lexer.specs.Inner.Standing.{StandsAfter};
 ghost use Rattle.store_state.specs.At.{standing};
 ghost use Rattle.store_state.specs.Events.{events};
 ghost use Rattle.snapshot_manager.specs.Starts.{start_of};
-ghost use Rattle.snapshot_manager.specs.Seats.{seats_in_all, start, AreIdleSeats, AreNewSeats, ExtendEach};
+ghost use Rattle.snapshot_manager.specs.Seats.{seats_in_all, start, AreNewSeats};
 ghost use Rattle.afl_session.specs.Style.{Style};
 ghost use Rattle.session_threads.specs.Sessions.{AreOfSessions, AreSessionsOf};
 ghost use Rattle.session_threads.specs.Inner.Desks.{AreDone, AreEmptied, AreSeated, HasEnded, IsReaper};
@@ -59,7 +59,7 @@ pub fn run_sessions<
     }
 }
 
-// The same, over a store that is shared.
+// The same, over a store that is shared. The reaper reaps beside the sessions, and once more behind the last.
 fn run_shared<
     D: Disk + Send + Drop,
     S: Source + Send + Drop,
@@ -91,40 +91,10 @@ fn run_shared<
         seats: room,
         reports,
     } = room;
-    let (desks, own) = worked(rt, alloc, &shared, seats, streams, options, gate, desks);
+    let (desks, own) = seated(seats, streams, desks);
+    let (desks, mut own) = work_beside(rt, alloc, &shared, options, gate, desks, own);
+    reap_once(rt, &shared, &mut own);
     gathered(shared, own, List::from_vec(desks), room, reports)
-}
-
-// Each session does its work, and the reaper beside them and once more behind the last.
-fn worked<
-    D: Disk + Send + Drop,
-    S: Source + Send + Drop,
-    K: Sink + Send + Drop,
-    R: Threads + Wait + Sync,
-    G: Gate,
->(
-    rt: &R,
-    alloc: Global,
-    shared: &Shared<D>,
-    seats: List<Seat<D>>,
-    streams: List<Streams<S, K>>,
-    options: &Options,
-    gate: &G,
-    room: Vec<Desk<D, S, K>>,
-) -> (Vec<Desk<D, S, K>>, Seat<D>)
-    requires seats { AreNewSeats shared.now seats }
-    requires count { length seats ≡ length streams + 1 }
-    requires begun { All (λ own. StandsAfter [] own.splitter) streams }
-    requires workers { (1 ≤ options.now.workers) × (options.now.workers ≤ 64) }
-    requires room { (room.items ≡ []) × (length streams ≤ vec_capacity room) }
-    ensures count { vec_len result.0 ≡ length streams }
-    ensures desks { AreDone options.now.style D.moment S.state K.state shared.now streams result.0.items }
-    ensures own { IsReaper shared.now (length streams) result.1 }
-{
-    let (desks, own) = seated(seats, streams, room);
-    let (desks, mut own) = work_beside(rt, alloc, shared, options, gate, desks, own);
-    reap_once(rt, shared, &mut own);
-    (desks, own)
 }
 
 // A desk for each session, with the seat of its number and the streams of its place. The last seat is left over.
@@ -152,7 +122,7 @@ fn seated<D: Disk + Drop, S: Drop, K: Drop>(
     (room, own)
 }
 
-// Takes the store back, once all sessions have ended. It takes no memory.
+// Takes the store back from the seats, of which the reaper's is the last, once all sessions have ended. It takes no memory.
 fn gathered<D: Disk + Drop, S: Source + Drop, K: Sink + Drop>(
     shared: Shared<D>,
     own: Seat<D>,
@@ -172,8 +142,9 @@ fn gathered<D: Disk + Drop, S: Source + Drop, K: Sink + Drop>(
         → AreSessionsOf style D.moment S.state K.state (start D.moment shared) streams result.1 (events (standing D.moment result.0)) }
     ensures others { AreOfSessions (length desks) (events (standing D.moment result.0)) }
 {
-    let (seats, reports) = emptied(desks, seats, reports);
-    (finished(shared, own, seats), reports)
+    let (mut seats, reports) = emptied(desks, seats, reports);
+    seats.push_reserved(own);
+    (shared.finish(List::from_vec(seats)), reports)
 }
 
 // The seats and the reports of sessions that have ended, in order.
@@ -196,18 +167,4 @@ fn emptied<D: Disk + Drop, S: Drop, K: Drop>(
         reports.push_reserved(report);
     }
     (seats, List::from_vec(reports))
-}
-
-// Takes the store back from its seats, of which the reaper's is the last.
-fn finished<D: Disk>(shared: Shared<D>, own: Seat<D>, mut seats: Vec<Seat<D>>) -> Store<D>
-    requires count { seats_in_all shared ≡ length seats.items + 1 }
-    requires seats { AreIdleSeats shared seats.items }
-    requires own { IsReaper shared (length seats.items) own }
-    requires room { length seats.items < vec_capacity seats }
-    ensures start { start_of (standing D.moment result) ≡ start D.moment shared }
-    ensures events { ExtendEach seats.items (events (standing D.moment result)) }
-    ensures others { AreOfSessions (length seats.items) (events (standing D.moment result)) }
-{
-    seats.push_reserved(own);
-    shared.finish(List::from_vec(seats))
 }

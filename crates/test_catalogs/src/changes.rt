@@ -6,11 +6,12 @@ ghost use Rattle.version_catalog.specs.Changed.{has_its_directory};
 ghost use Rattle.test_catalogs.specs.Worked.{worked_catalog};
 
 use crate::changing::{blob, catalog, create, cut, remove, write_none};
-use crate::told::Told;
+use crate::told::push_truth;
 use crate::vectors::*;
 use cell_values::{Bytes, Memory};
 use plan_changes::Change;
 use std::alloc::Global;
+use test_kit::{Transcript, push_word};
 use version_catalog::{BlobAt, Catalog, encode_catalog, encode_record, record_of, with_change};
 
 /// Where a change makes a version, its directory: 8 bytes in page 9.
@@ -67,7 +68,7 @@ fn makes(catalog: &Catalog, change: &Change, record: &[u8], after: &[u8]) -> Res
 /// Adds whether it does so. The change goes: by `drop`, whose proof is one for all, and not at the end of a scope, where it would
 /// be proved in each.
 fn push_change(
-    out: &mut Told,
+    out: &mut Transcript,
     catalog: &Catalog,
     title: &str,
     change: Result<Change, Memory>,
@@ -78,15 +79,14 @@ fn push_change(
 {
     match change {
         Ok(change) => {
-            let told = makes(catalog, &change, record, after);
+            push_truth(out, title, makes(catalog, &change, record, after));
             drop(change);
-            out.truth(title, told);
         }
-        Err(Memory) => out.truth(title, Err(Memory)),
+        Err(Memory) => out.note_short(),
     }
 }
 
-fn push_first_three(out: &mut Told, catalog: &Catalog)
+fn push_first_three(out: &mut Transcript, catalog: &Catalog)
     requires { catalog.now ≡ worked_catalog }
 {
     let alloc = catalog.arrays.allocator();
@@ -119,7 +119,7 @@ fn push_first_three(out: &mut Told, catalog: &Catalog)
     );
 }
 
-fn push_last_three(out: &mut Told, catalog: &Catalog)
+fn push_last_three(out: &mut Transcript, catalog: &Catalog)
     requires { catalog.now ≡ worked_catalog }
 {
     let alloc = catalog.arrays.allocator();
@@ -143,11 +143,12 @@ fn push_last_three(out: &mut Told, catalog: &Catalog)
     );
 }
 
-fn push_all(out: &mut Told, catalog: &Catalog)
+fn push_all(out: &mut Transcript, catalog: &Catalog)
     requires { catalog.now ≡ worked_catalog }
 {
     let alloc = catalog.arrays.allocator();
-    out.truth(
+    push_truth(
+        out,
         "the catalogue: ",
         are(encode_catalog(alloc, catalog), &START),
     );
@@ -156,9 +157,13 @@ fn push_all(out: &mut Told, catalog: &Catalog)
 }
 
 /// Adds of each kind of change whether its record, and the catalogue behind it, have the bytes that were spelled by hand.
-pub(crate) fn push_changes(out: &mut Told) -> Result<(), Memory> {
-    let catalog = catalog(out.alloc())?;
-    push_all(out, &catalog);
-    drop(catalog);
-    Ok(())
+pub(crate) fn push_changes(out: &mut Transcript) {
+    push_word(out, "### changes\n");
+    match catalog(out.alloc()) {
+        Ok(catalog) => {
+            push_all(out, &catalog);
+            drop(catalog);
+        }
+        Err(Memory) => out.note_short(),
+    }
 }

@@ -15,13 +15,12 @@ use crate::catalogs::{push_by, push_catalog, push_cuts, push_record};
 use crate::digits::{change_all, changed, front_of, many, put, zeros};
 use crate::directories::{push_directory, push_replaced};
 use crate::opens::push_opened;
-use crate::told::Told;
 use cell_values::{Bytes, Memory};
-use test_kit::bytes_in;
+use test_kit::{Transcript, bytes_in, push_word};
 
 /// Adds the spelling of what the bytes are read as where they are changed: as a catalogue, as a record, or as a directory of
 /// this number of dimensions.
-fn push_changed(out: &mut Told, bytes: &Bytes, form: &str, changes: &str) {
+fn push_changed(out: &mut Transcript, bytes: &Bytes, form: &str, changes: &str) {
     match changed(bytes, changes, false) {
         Ok(changed) => {
             match form {
@@ -31,22 +30,37 @@ fn push_changed(out: &mut Told, bytes: &Bytes, form: &str, changes: &str) {
             }
             drop(changed);
         }
-        Err(Memory) => out.is_short = true,
+        Err(Memory) => out.note_short(),
+    }
+}
+
+/// Adds what the bytes and those of some digits make together: as a catalogue and a record, or as directories of this number of
+/// dimensions.
+fn push_both(out: &mut Transcript, bytes: &Bytes, form: &str, digits: &str) {
+    match bytes_in(out.alloc(), digits) {
+        Ok(more) => {
+            match form {
+                "allows" => push_by(out, bytes.as_slice(), more.as_slice(), false),
+                "after" => push_by(out, bytes.as_slice(), more.as_slice(), true),
+                dims => push_replaced(out, dims, bytes.as_slice(), more.as_slice()),
+            }
+            drop(more);
+        }
+        Err(Memory) => out.note_short(),
     }
 }
 
 /// Adds the answer to a word that doesn't change the bytes, and to what stands behind it.
-fn push_told(out: &mut Told, bytes: &Bytes, word: &str, behind: &str) {
+fn push_told(out: &mut Transcript, bytes: &Bytes, word: &str, behind: &str) {
     let (first, rest) = front_of(behind);
     match word {
         "cuts" => push_cuts(out, bytes.as_slice()),
-        "allows" => push_by(out, bytes.as_slice(), behind, false),
-        "after" => push_by(out, bytes.as_slice(), behind, true),
+        "allows" | "after" => push_both(out, bytes, word, behind),
         "directory" => push_changed(out, bytes, first, rest),
-        "replace" => push_replaced(out, first, bytes.as_slice(), rest),
+        "replace" => push_both(out, bytes, first, rest),
         form => push_changed(out, bytes, form, behind),
     }
-    out.word("\n");
+    push_word(out, "\n");
 }
 
 /// Makes the bytes of which the lines behind it speak.
@@ -65,17 +79,11 @@ fn renew(bytes: &mut Bytes, word: &str, operands: &str) -> Result<(), Memory> {
 }
 
 /// Adds the answer to a line, or says which bytes there are.
-pub(crate) fn push_line(out: &mut Told, bytes: &mut Bytes, line: &str) {
+pub(crate) fn push_line(out: &mut Transcript, bytes: &mut Bytes, line: &str) {
     let (word, behind) = front_of(line);
     match word {
-        "bytes" | "many" | "pages" | "at" => {
-            let told = renew(bytes, word, behind);
-            out.note(told);
-        }
-        "open" => {
-            let told = push_opened(out, bytes, behind);
-            out.note(told);
-        }
+        "bytes" | "many" | "pages" | "at" => out.note(renew(bytes, word, behind).is_ok()),
+        "open" => push_opened(out, bytes, behind),
         word => push_told(out, bytes, word, behind),
     }
 }

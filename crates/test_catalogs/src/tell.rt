@@ -1,41 +1,42 @@
 //! What is told of a core.
 
-use crate::told::Told;
+use crate::told::{push_counted, push_named};
 use cell_values::{List, Memory};
 use event_core::{Core, CorePin, VersionPages};
 use logical_plan::Names;
+use test_kit::{Transcript, push_word};
 use version_reaper::{PageSet, live};
 
 /// Adds a text, numbers behind it, each behind a space, and ends the line.
-pub(crate) fn push_numbers(out: &mut Told, word: &str, numbers: &List<u32>) {
-    out.word(word);
+pub(crate) fn push_numbers(out: &mut Transcript, word: &str, numbers: &List<u32>) {
+    push_word(out, word);
     for number in numbers.as_slice() {
-        out.count(" ", u64::from(*number));
+        push_counted(out, " ", u64::from(*number));
     }
-    out.word("\n");
+    push_word(out, "\n");
 }
 
-pub(crate) fn push_names(out: &mut Told, names: &Names) {
+pub(crate) fn push_names(out: &mut Transcript, names: &Names) {
     for array in names.arrays.as_slice() {
-        out.name("  array ", &array.name);
-        out.count(", next ", u64::from(array.next));
+        push_named(out, "  array ", &array.name);
+        push_counted(out, ", next ", u64::from(array.next));
         push_numbers(out, ", versions:", &array.versions);
     }
 }
 
-fn push_versions(out: &mut Told, versions: &[VersionPages]) {
+fn push_versions(out: &mut Transcript, versions: &[VersionPages]) {
     for version in versions {
-        out.name("  version ", &version.name);
-        out.count("@", u64::from(version.version));
+        push_named(out, "  version ", &version.name);
+        push_counted(out, "@", u64::from(version.version));
         push_numbers(out, ", pages:", &version.pages);
     }
 }
 
-fn push_pins(out: &mut Told, pins: &[CorePin]) {
+fn push_pins(out: &mut Transcript, pins: &[CorePin]) {
     for pin in pins {
-        out.count("pin of session ", u64::from(pin.session));
-        out.count(" at place ", pin.place);
-        out.word(", which keeps\n");
+        push_counted(out, "pin of session ", u64::from(pin.session));
+        push_counted(out, " at place ", pin.place);
+        push_word(out, ", which keeps\n");
         push_names(out, &pin.names);
         push_versions(out, pin.pages.as_slice());
     }
@@ -71,28 +72,35 @@ fn live_in(core: &Core) -> Result<PageSet, Memory> {
     set
 }
 
-/// Adds the pages that are live.
-fn push_live(out: &mut Told, core: &Core) -> Result<(), Memory> {
-    let set = live_in(core)?;
-    out.word("live:");
-    for page in 1..core.limit {
+/// Adds the pages of a set.
+fn push_set(out: &mut Transcript, set: &PageSet, limit: u32) {
+    push_word(out, "live:");
+    for page in 1..limit {
         if set.has(page) {
-            out.count(" ", u64::from(page));
+            push_counted(out, " ", u64::from(page));
         }
     }
-    drop(set);
-    out.word("\n");
-    Ok(())
+    push_word(out, "\n");
 }
 
-pub(crate) fn push_core(out: &mut Told, core: &Core) -> Result<(), Memory> {
-    out.count("entries ", core.entries);
-    out.count(", limit ", u64::from(core.limit));
-    out.word("\n");
+/// Adds the pages that are live.
+fn push_live(out: &mut Transcript, core: &Core) {
+    match live_in(core) {
+        Ok(set) => {
+            push_set(out, &set, core.limit);
+            drop(set);
+        }
+        Err(Memory) => out.note_short(),
+    }
+}
+
+pub(crate) fn push_core(out: &mut Transcript, core: &Core) {
+    push_counted(out, "entries ", core.entries);
+    push_counted(out, ", limit ", u64::from(core.limit));
+    push_word(out, "\n");
     push_names(out, &core.names);
     push_versions(out, core.pages.as_slice());
     push_pins(out, core.pins.as_slice());
-    push_live(out, core)?;
+    push_live(out, core);
     push_numbers(out, "free:", &core.free);
-    Ok(())
 }

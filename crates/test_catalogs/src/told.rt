@@ -1,55 +1,27 @@
-//! A text that is told bit by bit.
+//! Texts with a number, a name or a truth behind them.
 
 use cell_values::{Memory, Name};
-use std::alloc::Global;
-use test_kit::{push_count, push_text, push_word};
+use test_kit::{Transcript, push_count, push_text, push_word, push_words, truth_word};
 
-/// What is told so far, and whether memory was short for some of it.
-pub(crate) struct Told {
-    pub(crate) text: String,
-    pub(crate) is_short: bool,
+/// Adds a text, and a number behind it.
+pub(crate) fn push_counted(out: &mut Transcript, word: &str, number: u64) {
+    push_word(out, word);
+    push_count(out, number);
 }
 
-impl Told {
-    pub(crate) fn alloc(&self) -> Global {
-        *self.text.allocator()
-    }
+/// Adds a text, and a name behind it.
+pub(crate) fn push_named(out: &mut Transcript, word: &str, name: &Name) {
+    push_word(out, word);
+    push_text(out, name.as_slice());
+}
 
-    /// Keeps in mind where memory was short.
-    pub(crate) fn note(&mut self, told: Result<(), Memory>) {
-        if told.is_err() {
-            self.is_short = true;
+/// Adds whether something is so, behind what it is.
+pub(crate) fn push_truth(out: &mut Transcript, title: &str, is_so: Result<bool, Memory>) {
+    match is_so {
+        Ok(is_so) => {
+            push_word(out, title);
+            push_words(out, &[truth_word(is_so), "\n"]);
         }
-    }
-
-    /// Adds a text as it is.
-    pub(crate) fn word(&mut self, word: &str) {
-        let told = push_word(&mut self.text, word);
-        self.note(told);
-    }
-
-    /// Adds a text, and a number behind it.
-    pub(crate) fn count(&mut self, word: &str, number: u64) {
-        self.word(word);
-        let told = push_count(&mut self.text, number);
-        self.note(told);
-    }
-
-    /// Adds a text, and a name behind it.
-    pub(crate) fn name(&mut self, word: &str, name: &Name) {
-        self.word(word);
-        let told = push_text(&mut self.text, name.as_slice());
-        self.note(told);
-    }
-
-    /// Adds whether something is so.
-    pub(crate) fn truth(&mut self, title: &str, told: Result<bool, Memory>) {
-        match told {
-            Ok(is_so) => {
-                self.word(title);
-                self.word(if is_so { "true\n" } else { "false\n" });
-            }
-            Err(Memory) => self.is_short = true,
-        }
+        Err(Memory) => out.note_short(),
     }
 }

@@ -12,7 +12,6 @@ mod steps;
 mod tally;
 
 use bells::push_bells;
-use cell_values::Memory;
 use commits::{push_cases, push_runs};
 use logs::push_entries;
 use seats::push_seats;
@@ -20,7 +19,7 @@ use std::sync::Wait;
 use std::thread::Threads;
 use steps::push_shared;
 use tally::push_turns;
-use test_kit::push_words;
+use test_kit::{Transcript, push_words};
 
 /// A table of cases.
 #[derive(Clone, Copy)]
@@ -45,18 +44,14 @@ fn table_of(title: &str) -> Option<Table> {
 }
 
 /// Adds what comes of a table.
-fn push_table<R: Threads + Wait + Sync>(
-    rt: &R,
-    out: &mut String,
-    table: Table,
-    text: &str,
-) -> Result<(), Memory> {
+fn push_table<R: Threads + Wait + Sync>(rt: &R, out: &mut Transcript, table: Table, text: &str) {
     match table {
         Table::SharedSteps => push_shared(rt, out, text),
         Table::Seats => push_seats(rt, out, text),
         Table::Turns => {
-            let turns = push_turns(rt, out).and(push_entries(rt, out));
-            turns.and(push_bells(rt, out))
+            push_turns(rt, out);
+            push_entries(rt, out);
+            push_bells(rt, out);
         }
         Table::Steps => push_runs(rt, out, text),
         Table::Stops => push_cases(rt, out),
@@ -66,15 +61,12 @@ fn push_table<R: Threads + Wait + Sync>(
 /// Adds the title of a table of commits, turns or threads, and what comes of its lines; nothing where the title is another one.
 pub fn push_commit_table<R: Threads + Wait + Sync>(
     rt: &R,
-    out: &mut String,
+    out: &mut Transcript,
     title: &str,
     text: &str,
-) -> Result<(), Memory> {
-    match table_of(title) {
-        Some(table) => {
-            push_words(out, &["### ", title, "\n"])?;
-            push_table(rt, out, table, text)
-        }
-        None => Ok(()),
+) {
+    if let Some(table) = table_of(title) {
+        push_words(out, &["### ", title, "\n"]);
+        push_table(rt, out, table, text);
     }
 }

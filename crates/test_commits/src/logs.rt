@@ -1,12 +1,13 @@
 //! Threads that append side by side.
-ghost use Rattle.turn_lock.specs.Seats.{IsSeatOf, IsIdle, AreIdleSeats};
+ghost use Rattle.std.specs.Prelude.{◌≡◌, length};
+ghost use Rattle.turn_lock.specs.Seats.{seat_count, IsSeatOf, IsIdle, AreIdleSeats, AreNewSeats};
 
 use cell_values::{List, Memory};
 use std::sync::Wait;
 use std::thread;
 use std::thread::Threads;
 use test_disks::push_numbered;
-use test_kit::push_word;
+use test_kit::{Transcript, push_word};
 use turn_lock::{Log, TurnLock, TurnSeat, append};
 
 /// Whether the entries of a seat have the contents 0 to 999, in this order.
@@ -49,31 +50,44 @@ fn append_all<R: Threads + Wait + Sync>(
 }
 
 /// Adds how many entries there are, and whether those of each seat are all there, in order.
-fn push_log(out: &mut String, log: &Log) -> Result<(), Memory> {
-    let (number, entries) = (log.number, log.entries.len());
-    writeln!(out, "log {number}, entries {entries}")?;
+fn push_log(out: &mut Transcript, log: &Log) {
+    push_numbered(out, "log ", log.number, ", entries ");
+    push_numbered(out, "", log.entries.len() as u64, "\n");
     for by in 0..4u32 {
         let told = if has_thousand(log, by) {
             ": 0 to 999, in order\n"
         } else {
             ": an entry is missing\n"
         };
-        push_numbered(out, "seat ", u64::from(by), told)?;
+        push_numbered(out, "seat ", u64::from(by), told);
     }
-    Ok(())
+}
+
+/// The log, once four threads have appended 1,000 entries each.
+fn appended<R: Threads + Wait + Sync>(
+    rt: &R,
+    lock: TurnLock<Log>,
+    seats: List<TurnSeat<Log>>,
+) -> Log
+    requires count { length seats ≡ seat_count lock }
+    requires seats { AreNewSeats lock seats }
+{
+    let mut seats = seats.into_vec();
+    append_all(rt, &lock, seats.as_mut_slice(), 1_000);
+    lock.close(List::from_vec(seats))
 }
 
 /// Adds what four threads that append 1,000 entries each leave: an entry is missing where an append found no memory.
-pub(crate) fn push_entries<R: Threads + Wait + Sync>(
-    rt: &R,
-    out: &mut String,
-) -> Result<(), Memory> {
-    let alloc = *out.allocator();
-    let Ok((lock, seats)) = TurnLock::new(alloc, Log::new(alloc, 7), 4) else {
-        return push_word(out, "no memory\n");
-    };
-    let mut seats = seats.into_vec();
-    append_all(rt, &lock, seats.as_mut_slice(), 1_000);
-    let log = lock.close(List::from_vec(seats));
-    push_log(out, &log)
+pub(crate) fn push_entries<R: Threads + Wait + Sync>(rt: &R, out: &mut Transcript) {
+    let alloc = out.alloc();
+    match TurnLock::new(alloc, Log::new(alloc, 7), 4) {
+        Ok((lock, seats)) => {
+            let log = appended(rt, lock, seats);
+            push_log(out, &log);
+        }
+        Err((Memory, log)) => {
+            drop(log);
+            push_word(out, "no memory\n");
+        }
+    }
 }

@@ -5,77 +5,58 @@
 //! of A by it, each with a removal of all versions before, and `reap` frees what nobody can name. `finish` takes the store back.
 ghost use Rattle.test_stores.specs.Runs.{IsRun};
 
-use cell_values::Memory;
 use std::sync::Wait;
 use std::thread::Threads;
 use test_disks::limits_of;
-use test_kit::{begin_answer, push_word, push_words};
+use test_kit::{Transcript, begin_answer, push_word, push_words};
 use test_stores::{Run, answer_line, push_finished};
 use test_threads::shared_database;
 
 /// Adds a title, or a line with its answer.
-fn push_step<R: Threads + Wait + Sync>(
-    rt: &R,
-    out: &mut String,
-    run: &mut Run,
-    line: &str,
-) -> Result<(), Memory>
+fn push_step<R: Threads + Wait + Sync>(rt: &R, out: &mut Transcript, run: &mut Run, line: &str)
     requires { IsRun run.old }
     ensures { IsRun run.new }
 {
-    match begin_answer(out, line) {
-        Ok(true) => answer_line(rt, *out.allocator(), run, line).tell(out),
-        Ok(false) => Ok(()),
-        Err(Memory) => Err(Memory),
+    if begin_answer(out, line) {
+        answer_line(rt, out.alloc(), run, line).tell(out);
     }
 }
 
 /// Adds each line, with its answer.
-fn push_steps<R: Threads + Wait + Sync>(
-    rt: &R,
-    out: &mut String,
-    run: &mut Run,
-    steps: &str,
-) -> Result<(), Memory>
+fn push_steps<R: Threads + Wait + Sync>(rt: &R, out: &mut Transcript, run: &mut Run, steps: &str)
     requires { IsRun run.old }
     ensures { IsRun run.new }
 {
-    let mut told = Ok(());
     for line in steps.lines() {
-        told = told.and(push_step(rt, out, run, line));
+        push_step(rt, out, run, line);
     }
-    told
 }
 
 /// Adds each line, with its answer, and what the store tells once it is taken back.
-fn push_run<R: Threads + Wait + Sync>(
-    rt: &R,
-    out: &mut String,
-    mut run: Run,
-    steps: &str,
-) -> Result<(), Memory>
+fn push_run<R: Threads + Wait + Sync>(rt: &R, out: &mut Transcript, mut run: Run, steps: &str)
     requires { IsRun run }
 {
-    let told = push_steps(rt, out, &mut run, steps).and(push_word(out, "> finish\n"));
-    told.and(push_finished(out, run))
+    push_steps(rt, out, &mut run, steps);
+    push_word(out, "> finish\n");
+    push_finished(out, run);
+}
+
+/// Shares a store of these limits, and adds each line, with its answer.
+fn push_share<R: Threads + Wait + Sync>(rt: &R, out: &mut Transcript, numbers: &str, steps: &str) {
+    push_words(out, &["> share ", numbers, "\n"]);
+    match shared_database(rt, out.alloc(), limits_of(numbers)) {
+        Ok(run) => push_run(rt, out, run, steps),
+        Err(answer) => answer.tell(out),
+    }
 }
 
 /// Adds the lines of a text with their answers. Behind each line of `finish` a store is shared anew.
-pub(crate) fn push_shared<R: Threads + Wait + Sync>(
-    rt: &R,
-    out: &mut String,
-    text: &str,
-) -> Result<(), Memory> {
+pub(crate) fn push_shared<R: Threads + Wait + Sync>(rt: &R, out: &mut Transcript, text: &str) {
     for lines in text.split("finish\n") {
         let (titles, rest) = lines.split_once("share ").unwrap_or((lines, ""));
-        push_word(out, titles)?;
+        push_word(out, titles);
         if let Some((numbers, steps)) = rest.split_once('\n') {
-            push_words(out, &["> share ", numbers, "\n"])?;
-            match shared_database(rt, *out.allocator(), limits_of(numbers)) {
-                Ok(run) => push_run(rt, out, run, steps)?,
-                Err(answer) => answer.tell(out)?,
-            }
+            push_share(rt, out, numbers, steps);
         }
     }
-    Ok(())
 }

@@ -1,14 +1,14 @@
 //! Turns of several threads on a counter that remembers who counted.
-ghost use Rattle.std.specs.Prelude.{◌≡◌};
+ghost use Rattle.std.specs.Prelude.{◌≡◌, length};
 ghost use Rattle.turn_lock.specs.Owners.{ExtendsByOwn};
-ghost use Rattle.turn_lock.specs.Seats.{IsSeatOf, IsIdle, AreIdleSeats};
+ghost use Rattle.turn_lock.specs.Seats.{seat_count, IsSeatOf, IsIdle, AreIdleSeats, AreNewSeats};
 
 use cell_values::{List, Memory};
 use std::sync::Wait;
 use std::thread;
 use std::thread::Threads;
 use test_disks::push_numbered;
-use test_kit::push_word;
+use test_kit::{Transcript, push_word};
 use turn_lock::{History, TurnLock, TurnSeat};
 
 #[derive(Clone, Copy)]
@@ -98,32 +98,48 @@ fn all_turns<R: Threads + Wait + Sync>(
 }
 
 /// Adds how many marks there are, and whether each seat's last one is of its last turn.
-fn push_tally(out: &mut String, tally: &Tally) -> Result<(), Memory> {
-    let (start, marks) = (tally.start, tally.count());
-    writeln!(out, "start {start}, marks {marks}")?;
+fn push_tally(out: &mut Transcript, tally: &Tally) {
+    push_numbered(out, "start ", tally.start, ", marks ");
+    push_numbered(out, "", tally.count(), "\n");
     for by in 0..4u32 {
         let told = if tally.last_turn(by) == Some(9_999) {
             ": each turn, in order\n"
         } else {
             ": a turn is missing\n"
         };
-        push_numbered(out, "seat ", u64::from(by), told)?;
+        push_numbered(out, "seat ", u64::from(by), told);
     }
-    Ok(())
+}
+
+/// The tally, once four threads have taken 10,000 turns each.
+fn tallied<R: Threads + Wait + Sync>(
+    rt: &R,
+    lock: TurnLock<Tally>,
+    seats: List<TurnSeat<Tally>>,
+) -> Tally
+    requires count { length seats ≡ seat_count lock }
+    requires seats { AreNewSeats lock seats }
+{
+    let mut seats = seats.into_vec();
+    all_turns(rt, &lock, seats.as_mut_slice(), 10_000);
+    lock.close(List::from_vec(seats))
 }
 
 /// Adds what four threads of 10,000 turns each leave: a mark is missing where a seat did not find its own last one.
-pub(crate) fn push_turns<R: Threads + Wait + Sync>(rt: &R, out: &mut String) -> Result<(), Memory> {
-    let alloc = *out.allocator();
+pub(crate) fn push_turns<R: Threads + Wait + Sync>(rt: &R, out: &mut Transcript) {
+    let alloc = out.alloc();
     let tally = Tally {
         start: 7,
         marks: List::new(alloc),
     };
-    let Ok((lock, seats)) = TurnLock::new(alloc, tally, 4) else {
-        return push_word(out, "no memory\n");
-    };
-    let mut seats = seats.into_vec();
-    all_turns(rt, &lock, seats.as_mut_slice(), 10_000);
-    let tally = lock.close(List::from_vec(seats));
-    push_tally(out, &tally)
+    match TurnLock::new(alloc, tally, 4) {
+        Ok((lock, seats)) => {
+            let tally = tallied(rt, lock, seats);
+            push_tally(out, &tally);
+        }
+        Err((Memory, tally)) => {
+            drop(tally);
+            push_word(out, "no memory\n");
+        }
+    }
 }

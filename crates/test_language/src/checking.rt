@@ -7,6 +7,7 @@ ghost use Rattle.afl_types.specs.Arrays.{AreValid};
 
 use crate::stored::names;
 use crate::told::push_typed;
+use crate::without_end;
 use afl_parser::parse;
 use afl_trees::{Tree, let_go_tree};
 use afl_types::{TypeFault, check, let_go_typed};
@@ -15,32 +16,31 @@ use logical_plan::Names;
 use result_print::{Refusal, refusal_line};
 use schema_grammar::TypeKind;
 use std::str::from_utf8;
-use test_kit::push_word;
+use test_kit::{Transcript, push_word};
 
 /// How many bytes a statement may have.
 const LIMIT: usize = 1_048_576;
 
 /// Adds the rule that a statement breaks, with the place.
-fn push_fault(out: &mut String, span: Span, kind: TypeKind) -> Result<(), Memory> {
-    let line = refusal_line(*out.allocator(), &Refusal::Typing { span, kind })?;
-    let text = match line.as_slice() {
-        [text @ .., b'\n'] => text,
-        text => text,
-    };
-    let told = push_word(out, from_utf8(text).unwrap_or("no text"));
-    drop(line);
-    told
+fn push_fault(out: &mut Transcript, span: Span, kind: TypeKind) {
+    match refusal_line(out.alloc(), &Refusal::Typing { span, kind }) {
+        Ok(line) => {
+            let text = from_utf8(without_end(line.as_slice()));
+            push_word(out, text.unwrap_or("no text"));
+            drop(line);
+        }
+        Err(Memory) => out.note_short(),
+    }
 }
 
 /// Adds what checking answers to a tree.
-fn push_checked(out: &mut String, text: &[u8], tree: &Tree, names: &Names) -> Result<(), Memory>
+fn push_checked(out: &mut Transcript, text: &[u8], tree: &Tree, names: &Names)
     requires { AreValid names.now.arrays }
 {
-    match check(*out.allocator(), tree, text, names) {
+    match check(out.alloc(), tree, text, names) {
         Ok(typed) => {
-            let told = push_typed(out, &typed);
+            push_typed(out, &typed);
             let_go_typed(typed);
-            told
         }
         Err(TypeFault::Rule { span, kind }) => push_fault(out, span, kind),
         Err(TypeFault::Memory) => push_word(out, "no memory"),
@@ -48,17 +48,17 @@ fn push_checked(out: &mut String, text: &[u8], tree: &Tree, names: &Names) -> Re
 }
 
 /// Adds what checking answers to a statement.
-fn push_statement(out: &mut String, text: &[u8], names: &Names) -> Result<(), Memory>
+fn push_statement(out: &mut Transcript, text: &[u8], names: &Names)
     requires { AreValid names.now.arrays }
 {
     if text.len() > LIMIT {
-        return push_word(out, "too long");
+        push_word(out, "too long");
+        return;
     }
-    match parse(*out.allocator(), text) {
+    match parse(out.alloc(), text) {
         Ok(tree) => {
-            let told = push_checked(out, text, &tree, names);
+            push_checked(out, text, &tree, names);
             let_go_tree(tree);
-            told
         }
         Err(_) => push_word(out, "no statement"),
     }
@@ -78,15 +78,10 @@ fn statement_in(line: &[u8]) -> (u32, usize, &[u8]) {
 }
 
 /// Adds what checking answers to the statement of a line.
-pub(crate) fn push_checked_line(out: &mut String, line: &[u8]) -> Result<(), Memory> {
+pub(crate) fn push_checked_line(out: &mut Transcript, line: &[u8]) {
     let (next, others, text) = statement_in(line);
-    let told = match names(*out.allocator(), next, others) {
-        Some(names) => {
-            let told = push_statement(out, text, &names);
-            drop(names);
-            told
-        }
-        None => push_word(out, "no arrays"),
-    };
-    told.and(push_word(out, "\n"))
+    let names = names(out, next, others);
+    push_statement(out, text, &names);
+    drop(names);
+    push_word(out, "\n");
 }

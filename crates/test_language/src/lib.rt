@@ -15,11 +15,10 @@ mod texts;
 mod tokens;
 mod told;
 
-use cell_values::Memory;
 use checking::push_checked_line;
 use parsing::push_parsed_line;
 use std::str::from_utf8;
-use test_kit::push_words;
+use test_kit::{Transcript, push_words};
 use texts::push_text_line;
 
 /// What the lines of a table are.
@@ -40,15 +39,21 @@ fn table_of(title: &str) -> Option<Table> {
     }
 }
 
-/// Adds a title, or what is told of another line.
-fn push_line(out: &mut String, table: Table, line: &[u8]) -> Result<(), Memory> {
-    if line.starts_with(b"##".as_slice()) {
-        return push_words(out, &[from_utf8(line).unwrap_or("##"), "\n"]);
-    }
+/// Adds what is told of a line that is no title.
+fn push_told(out: &mut Transcript, table: Table, line: &[u8]) {
     match table {
         Table::Texts => push_text_line(out, from_utf8(line).unwrap_or("no text")),
         Table::Parsing => push_parsed_line(out, line),
         Table::Checking => push_checked_line(out, line),
+    }
+}
+
+/// Adds a title, or what is told of another line.
+fn push_line(out: &mut Transcript, table: Table, line: &[u8]) {
+    if line.starts_with(b"##".as_slice()) {
+        push_words(out, &[from_utf8(line).unwrap_or("##"), "\n"]);
+    } else {
+        push_told(out, table, line);
     }
 }
 
@@ -61,20 +66,16 @@ fn without_end(line: &[u8]) -> &[u8] {
 }
 
 /// Adds titles, and what is told of each other line.
-fn push_lines(out: &mut String, table: Table, text: &[u8]) -> Result<(), Memory> {
+fn push_lines(out: &mut Transcript, table: Table, text: &[u8]) {
     for line in text.split_inclusive(|byte| *byte == b'\n') {
-        push_line(out, table, without_end(line))?;
+        push_line(out, table, without_end(line));
     }
-    Ok(())
 }
 
 /// Adds the title of a table of texts, and what is told of its lines, which need not be UTF-8; nothing where the title is another one.
-pub fn push_language_table(out: &mut String, title: &str, text: &[u8]) -> Result<(), Memory> {
-    match table_of(title) {
-        Some(table) => {
-            push_words(out, &["### ", title, "\n"])?;
-            push_lines(out, table, text)
-        }
-        None => Ok(()),
+pub fn push_language_table(out: &mut Transcript, title: &str, text: &[u8]) {
+    if let Some(table) = table_of(title) {
+        push_words(out, &["### ", title, "\n"]);
+        push_lines(out, table, text);
     }
 }

@@ -4,11 +4,13 @@
 //! outline of the tree of the statement behind that word, and one that begins with `print: ` by its printed form.
 
 use crate::outline::write_outline;
+use crate::told::push_written;
 use afl_parser::{ParseFault, parse};
 use afl_trees::{Tree, let_go_tree, print};
-use cell_values::Memory;
+use cell_values::{Bytes, Memory};
+use std::alloc::Global;
 use std::str::from_utf8;
-use test_kit::{push_word, text_of};
+use test_kit::{Transcript, push_word, text_of};
 
 /// How many bytes a statement may have.
 const LIMIT: usize = 1_048_576;
@@ -33,55 +35,73 @@ fn form_of(line: &[u8]) -> (Form, &[u8]) {
 }
 
 /// Adds how a tree is printed, if its copy is printed so.
-fn push_compared(out: &mut String, tree: &Tree, of_copy: &[u8]) -> Result<(), Memory> {
-    let printed = print(*out.allocator(), tree)?;
-    let is_copied = printed.as_slice() == of_copy;
-    drop(printed);
-    push_word(
-        out,
-        if is_copied {
-            from_utf8(of_copy).unwrap_or("no text")
-        } else {
-            "another copy"
-        },
-    )
+fn push_compared(out: &mut Transcript, tree: &Tree, of_copy: &[u8]) {
+    match print(out.alloc(), tree) {
+        Ok(printed) => {
+            let is_copied = printed.as_slice() == of_copy;
+            drop(printed);
+            let text = from_utf8(of_copy).unwrap_or("no text");
+            push_word(out, if is_copied { text } else { "another copy" });
+        }
+        Err(Memory) => out.note_short(),
+    }
 }
 
-fn push_printed(out: &mut String, tree: &Tree) -> Result<(), Memory> {
+/// How a copy of a tree is printed.
+fn printed_copy(alloc: Global, tree: &Tree) -> Result<Bytes, Memory> {
     let copy = tree.copy()?;
-    let of_copy = print(*out.allocator(), &copy);
+    let printed = print(alloc, &copy);
     let_go_tree(copy);
-    let of_copy = of_copy?;
-    let told = push_compared(out, tree, of_copy.as_slice());
-    drop(of_copy);
-    told
+    printed
+}
+
+fn push_printed(out: &mut Transcript, tree: &Tree) {
+    match printed_copy(out.alloc(), tree) {
+        Ok(of_copy) => {
+            push_compared(out, tree, of_copy.as_slice());
+            drop(of_copy);
+        }
+        Err(Memory) => out.note_short(),
+    }
+}
+
+/// Adds what is told of a tree.
+fn push_tree(out: &mut Transcript, form: Form, tree: &Tree) {
+    match form {
+        Form::Word => push_word(out, "ok"),
+        Form::Outline => write_outline("", tree, out),
+        Form::Print => push_printed(out, tree),
+    }
 }
 
 /// Adds what the parser answers to a text.
-fn push_parsed(out: &mut String, form: Form, text: &[u8]) -> Result<(), Memory> {
+fn push_parsed(out: &mut Transcript, form: Form, text: &[u8]) {
     if text.len() > LIMIT {
-        return push_word(out, "too long");
+        push_word(out, "too long");
+        return;
     }
-    match parse(*out.allocator(), text) {
+    match parse(out.alloc(), text) {
         Ok(tree) => {
-            let told = match form {
-                Form::Word => push_word(out, "ok"),
-                Form::Outline => write_outline("", &tree, out),
-                Form::Print => push_printed(out, &tree),
-            };
+            push_tree(out, form, &tree);
             let_go_tree(tree);
-            told
         }
-        Err(ParseFault::At { at, kind }) => Ok(write!(out, "at {at}: {kind:?}")?),
+        Err(ParseFault::At { at, kind }) => {
+            let written = format!(in out.alloc(); "at {at}: {kind:?}");
+            push_written(out, written);
+        }
         Err(ParseFault::Memory) => push_word(out, "no memory"),
     }
 }
 
 /// Adds what the parser answers to the text that a line stands for.
-pub(crate) fn push_parsed_line(out: &mut String, line: &[u8]) -> Result<(), Memory> {
+pub(crate) fn push_parsed_line(out: &mut Transcript, line: &[u8]) {
     let (form, rest) = form_of(line);
-    let text = text_of(*out.allocator(), rest)?;
-    let told = push_parsed(out, form, text.as_slice());
-    drop(text);
-    told.and(push_word(out, "\n"))
+    match text_of(out.alloc(), rest) {
+        Ok(text) => {
+            push_parsed(out, form, text.as_slice());
+            drop(text);
+        }
+        Err(Memory) => out.note_short(),
+    }
+    push_word(out, "\n");
 }

@@ -1,101 +1,75 @@
 //! The texts of changes, listings and refusals.
 
-use crate::schemas::schema_in;
+use crate::stored::entry_of;
 use crate::texts::front_of;
-use crate::told::push_made;
-use cell_values::{List, Memory, Schema};
+use cell_values::List;
 use logical_plan::{NameEntry, Names};
 use result_print::{
     Refusal, list_text, ok_line, refusal_line, show_text, stored_line, versions_text,
 };
-use std::alloc::Global;
-use test_kit::{name_of, push_word};
+use test_kit::{Transcript, push_made, push_word};
 
 /// Adds the numbers of a word such as `1,3`, and none of `-`.
-fn push_numbers(numbers: &mut List<u32>, word: &str) -> Result<(), Memory> {
+fn push_numbers(out: &mut Transcript, numbers: &mut List<u32>, word: &str) {
     for digits in word.split(',') {
         if let Ok(number) = digits.parse::<u32>() {
-            numbers.push(number)?;
-        }
-    }
-    Ok(())
-}
-
-/// An array of this name and schema without versions, whose next number is that of a word.
-fn entry_of(alloc: Global, name: &str, next: &str, schema: Schema) -> Option<NameEntry> {
-    match name_of(alloc, name.as_bytes()) {
-        Ok(name) => Some(NameEntry {
-            name,
-            schema,
-            next: number_of(next),
-            versions: List::new(alloc),
-        }),
-        Err(Memory) => {
-            drop(schema);
-            None
+            let added = numbers.push(number);
+            out.note(added.is_ok());
         }
     }
 }
 
 /// The array of a text such as `A 4 1,3 <v:int64>[i=0:3,2,0]`: its name, its next number, its versions and its schema.
-fn array_in(alloc: Global, text: &str) -> Option<NameEntry> {
+fn array_in(out: &mut Transcript, text: &str) -> Option<NameEntry> {
     let (name, rest) = front_of(text);
     let (next, rest) = front_of(rest);
     let (versions, schema) = front_of(rest);
-    let schema = schema_in(alloc, schema.as_bytes())?;
-    let mut entry = entry_of(alloc, name, next, schema)?;
-    match push_numbers(&mut entry.versions, versions) {
-        Ok(()) => Some(entry),
-        Err(Memory) => {
-            drop(entry);
-            None
-        }
-    }
+    let alloc = out.alloc();
+    let mut numbers = List::new(alloc);
+    push_numbers(out, &mut numbers, versions);
+    let entry = entry_of(alloc, name, schema, number_of(next), numbers.as_slice());
+    drop(numbers);
+    entry
 }
 
-fn push_entry(out: &mut String, entry: &NameEntry) -> Result<(), Memory> {
-    let alloc = *out.allocator();
-    let shown = push_made(out, show_text(alloc, entry));
-    let versions = push_made(out, versions_text(alloc, entry));
-    let stored = push_made(out, stored_line(alloc, &entry.name, entry.next));
-    let done = push_made(out, ok_line(alloc));
-    shown.and(versions).and(stored).and(done)
+fn push_entry(out: &mut Transcript, entry: &NameEntry) {
+    let alloc = out.alloc();
+    push_made(out, show_text(alloc, entry));
+    push_made(out, versions_text(alloc, entry));
+    push_made(out, stored_line(alloc, &entry.name, entry.next));
+    push_made(out, ok_line(alloc));
 }
 
 /// Adds what is told of the array of a text.
-pub(crate) fn push_array(out: &mut String, text: &str) -> Result<(), Memory> {
-    match array_in(*out.allocator(), text) {
+pub(crate) fn push_array(out: &mut Transcript, text: &str) {
+    match array_in(out, text) {
         Some(entry) => {
-            let told = push_entry(out, &entry);
+            push_entry(out, &entry);
             drop(entry);
-            told
         }
         None => push_word(out, "no array"),
     }
 }
 
 /// Adds the arrays of a text, with a `|` between.
-fn push_arrays_in(arrays: &mut List<NameEntry>, text: &str) -> Result<(), Memory> {
+fn push_arrays_in(out: &mut Transcript, arrays: &mut List<NameEntry>, text: &str) {
     for part in text.split('|') {
-        if let Some(entry) = array_in(arrays.allocator(), part) {
-            arrays.push(entry)?;
+        if let Some(entry) = array_in(out, part) {
+            let added = arrays.push(entry);
+            out.note(added.is_ok());
         }
     }
-    Ok(())
 }
 
 /// Adds the list of the arrays of a text.
-pub(crate) fn push_list(out: &mut String, text: &str) -> Result<(), Memory> {
-    let alloc = *out.allocator();
+pub(crate) fn push_list(out: &mut Transcript, text: &str) {
+    let alloc = out.alloc();
     let mut names = Names {
         arrays: List::new(alloc),
     };
-    let list = match push_arrays_in(&mut names.arrays, text) {
-        Ok(()) => list_text(alloc, &names),
-        Err(Memory) => Err(Memory),
-    };
+    push_arrays_in(out, &mut names.arrays, text);
+    push_made(out, list_text(alloc, &names));
     drop(names);
-    push_made(out, list)
 }
 
 fn number_of(word: &str) -> u32 {
@@ -129,9 +103,9 @@ fn refusal_in(text: &str) -> Refusal {
 }
 
 /// Adds the line of the refusal of a text.
-pub(crate) fn push_refusal(out: &mut String, text: &str) -> Result<(), Memory> {
+pub(crate) fn push_refusal(out: &mut Transcript, text: &str) {
     let refusal = refusal_in(text);
-    let line = refusal_line(*out.allocator(), &refusal);
+    let line = refusal_line(out.alloc(), &refusal);
     drop(refusal);
-    push_made(out, line)
+    push_made(out, line);
 }

@@ -1,5 +1,6 @@
 //! Schemas that are written as texts.
-ghost use Rattle.std.specs.Prelude.{◌≤◌, length};
+ghost use Rattle.std.specs.Prelude.{◌≤◌, length, IfSome};
+ghost use Rattle.cell_values.specs.Schemas.{IsValid};
 
 use crate::tokens::push_span;
 use afl_lexer::tokens;
@@ -8,7 +9,7 @@ use schema_grammar::{
     SchemaFault, SchemaText, ShapeFault, TypeKind, meaning, print_shape, schema_text, shape,
 };
 use std::alloc::Global;
-use test_kit::{push_count, push_given, push_word, push_words};
+use test_kit::{Transcript, push_count, push_made, push_word, push_words};
 
 /// The syntax tree of a text's tokens from one on, and the token behind it.
 fn read(alloc: Global, text: &[u8], from: usize) -> Result<(SchemaText, usize), ShapeFault>
@@ -29,7 +30,9 @@ fn read(alloc: Global, text: &[u8], from: usize) -> Result<(SchemaText, usize), 
 }
 
 /// The schema that a text means.
-pub(crate) fn schema_in(alloc: Global, text: &[u8]) -> Option<Schema> {
+pub(crate) fn schema_in(alloc: Global, text: &[u8]) -> Option<Schema>
+    ensures { IfSome result IsValid }
+{
     if text.len() > 1_048_576 {
         return None;
     }
@@ -55,71 +58,79 @@ fn rule_text(kind: TypeKind) -> &'static str {
     }
 }
 
-fn push_stop(out: &mut String, fault: ShapeFault) -> Result<(), Memory> {
+fn push_stop(out: &mut Transcript, fault: ShapeFault) {
     match fault {
         ShapeFault::Unexpected { token } => {
-            push_word(out, "stop at token ").and(push_count(out, token as u64))
+            push_word(out, "stop at token ");
+            push_count(out, token as u64);
         }
         ShapeFault::Memory => push_word(out, "no tokens"),
     }
 }
 
 /// Adds a copy of a schema.
-fn push_copied(out: &mut String, schema: &Schema) -> Result<(), Memory> {
-    let copy = schema.copy()?;
-    let text = schema_text(*out.allocator(), &copy);
-    drop(copy);
-    push_given(out, text?)
+fn push_copied(out: &mut Transcript, schema: &Schema) {
+    match schema.copy() {
+        Ok(copy) => {
+            let text = schema_text(out.alloc(), &copy);
+            drop(copy);
+            push_made(out, text);
+        }
+        Err(Memory) => out.note_short(),
+    }
 }
 
 /// Adds the schema that a syntax tree means, or the first rule that it breaks with the place.
-fn push_meaning(out: &mut String, text: &[u8], shape: &SchemaText) -> Result<(), Memory> {
-    match meaning(*out.allocator(), text, shape) {
+fn push_meaning(out: &mut Transcript, text: &[u8], shape: &SchemaText) {
+    match meaning(out.alloc(), text, shape) {
         Ok(schema) => {
-            let told = push_copied(out, &schema);
+            push_copied(out, &schema);
             drop(schema);
-            told
         }
         Err(SchemaFault::Rule { span, kind }) => {
-            let placed = push_word(out, "at ").and(push_span(out, &span));
-            placed.and(push_words(out, &[": ", rule_text(kind)]))
+            push_word(out, "at ");
+            push_span(out, &span);
+            push_words(out, &[": ", rule_text(kind)]);
         }
         Err(SchemaFault::Memory) => push_word(out, "no memory"),
     }
 }
 
 /// Adds what the schema that begins at a token means, and the token behind it.
-pub(crate) fn push_schema(out: &mut String, text: &[u8], from: usize) -> Result<(), Memory>
+pub(crate) fn push_schema(out: &mut Transcript, text: &[u8], from: usize)
     requires { length text.now ≤ 1048576 }
 {
-    match read(*out.allocator(), text, from) {
+    match read(out.alloc(), text, from) {
         Ok((shape, next)) => {
-            let told = push_meaning(out, text, &shape);
+            push_meaning(out, text, &shape);
             drop(shape);
-            let parted = push_word(out, " before token ");
-            told.and(parted).and(push_count(out, next as u64))
+            push_word(out, " before token ");
+            push_count(out, next as u64);
         }
         Err(fault) => push_stop(out, fault),
     }
 }
 
 /// Adds a copy of a syntax tree.
-fn push_shape(out: &mut String, shape: &SchemaText) -> Result<(), Memory> {
-    let copy = shape.copy()?;
-    let text = print_shape(*out.allocator(), &copy);
-    drop(copy);
-    push_given(out, text?)
+fn push_shape(out: &mut Transcript, shape: &SchemaText) {
+    match shape.copy() {
+        Ok(copy) => {
+            let text = print_shape(out.alloc(), &copy);
+            drop(copy);
+            push_made(out, text);
+        }
+        Err(Memory) => out.note_short(),
+    }
 }
 
 /// Adds the schema as a text writes it.
-pub(crate) fn push_tree(out: &mut String, text: &[u8]) -> Result<(), Memory>
+pub(crate) fn push_tree(out: &mut Transcript, text: &[u8])
     requires { length text.now ≤ 1048576 }
 {
-    match read(*out.allocator(), text, 0) {
+    match read(out.alloc(), text, 0) {
         Ok((shape, _)) => {
-            let told = push_shape(out, &shape);
+            push_shape(out, &shape);
             drop(shape);
-            told
         }
         Err(fault) => push_stop(out, fault),
     }

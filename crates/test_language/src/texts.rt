@@ -15,7 +15,7 @@ use crate::tokens::push_tokens;
 use cell_values::{Bytes, Memory};
 use std::alloc::Global;
 use std::str::from_utf8;
-use test_kit::{bytes_of, push_word, push_words, text_of};
+use test_kit::{Transcript, bytes_of, push_word, push_words, text_of};
 
 /// How many bytes a statement may have.
 const LIMIT: usize = 1_048_576;
@@ -34,9 +34,10 @@ fn script_of(alloc: Global, line: &str) -> Result<Bytes, Memory> {
 }
 
 /// Adds the tokens or the schema of a text.
-fn push_read(out: &mut String, word: &str, text: &[u8]) -> Result<(), Memory> {
+fn push_read(out: &mut Transcript, word: &str, text: &[u8]) {
     if text.len() > LIMIT {
-        return push_word(out, "too long");
+        push_word(out, "too long");
+        return;
     }
     match word {
         "tokens" => push_tokens(out, text),
@@ -45,24 +46,32 @@ fn push_read(out: &mut String, word: &str, text: &[u8]) -> Result<(), Memory> {
     }
 }
 
+/// Adds what bytes are told to be.
+fn push_script(out: &mut Transcript, word: &str, script: &[u8]) {
+    match word {
+        "split" => push_pieces(out, script),
+        "cells" => push_cells(out, from_utf8(script).unwrap_or("")),
+        word => push_read(out, word, script),
+    }
+}
+
 /// Adds what the bytes are told to be that a line stands for.
-fn push_bytes(out: &mut String, word: &str, line: &str) -> Result<(), Memory> {
-    let script = script_of(*out.allocator(), line)?;
-    let told = match word {
-        "split" => push_pieces(out, script.as_slice()),
-        "cells" => push_cells(out, from_utf8(script.as_slice()).unwrap_or("")),
-        word => push_read(out, word, script.as_slice()),
-    };
-    drop(script);
-    told
+fn push_bytes(out: &mut Transcript, word: &str, line: &str) {
+    match script_of(out.alloc(), line) {
+        Ok(script) => {
+            push_script(out, word, script.as_slice());
+            drop(script);
+        }
+        Err(Memory) => out.note_short(),
+    }
 }
 
 /// Adds the answer to a line of these words.
-fn push_answer(out: &mut String, word: &str, rest: &str) -> Result<(), Memory> {
+fn push_answer(out: &mut Transcript, word: &str, rest: &str) {
     match word {
         "schema" => {
             let (from, text) = front_of(rest);
-            push_bytes(out, from, text)
+            push_bytes(out, from, text);
         }
         "array" => push_array(out, rest),
         "list" => push_list(out, rest),
@@ -72,11 +81,10 @@ fn push_answer(out: &mut String, word: &str, rest: &str) -> Result<(), Memory> {
 }
 
 /// Adds a line and its answer.
-pub(crate) fn push_text_line(out: &mut String, line: &str) -> Result<(), Memory> {
-    let begun = push_words(out, &["> ", line, "\n"]);
-    let told = match line.split_once(' ') {
-        Some((word, rest)) => push_answer(out, word, rest),
-        None => Ok(()),
-    };
-    begun.and(told).and(push_word(out, "\n"))
+pub(crate) fn push_text_line(out: &mut Transcript, line: &str) {
+    push_words(out, &["> ", line, "\n"]);
+    if let Some((word, rest)) = line.split_once(' ') {
+        push_answer(out, word, rest);
+    }
+    push_word(out, "\n");
 }

@@ -7,7 +7,8 @@ use afl_lexer::{
 };
 use cell_values::{Memory, Name, Span};
 use test_kit::{
-    push_code, push_count, push_integer, push_quoted, push_range, push_text, push_word, push_words,
+    Transcript, push_code, push_count, push_integer, push_made, push_range, push_text, push_word,
+    push_words,
 };
 
 fn word_text(word: Word) -> &'static str {
@@ -60,65 +61,67 @@ fn fault_text(kind: LexKind) -> &'static str {
 }
 
 /// Adds a place, as `3-5`.
-pub(crate) fn push_span(out: &mut String, span: &Span) -> Result<(), Memory> {
-    push_range(out, u64::from(span.start), u64::from(span.end))
+pub(crate) fn push_span(out: &mut Transcript, span: &Span) {
+    push_range(out, u64::from(span.start), u64::from(span.end));
 }
 
-/// Adds a name, and lets it go.
-fn push_name(out: &mut String, name: Name) -> Result<(), Memory> {
-    let told = push_text(out, name.as_slice());
-    drop(name);
-    told
+/// Adds a name that was made, and lets it go.
+fn push_name(out: &mut Transcript, made: Result<Name, Memory>) {
+    match made {
+        Ok(name) => {
+            push_text(out, name.as_slice());
+            drop(name);
+        }
+        Err(Memory) => out.note_short(),
+    }
 }
 
 /// Adds what a token stands for.
-fn push_meaning(out: &mut String, text: &[u8], token: &Token) -> Result<(), Memory>
+fn push_meaning(out: &mut Transcript, text: &[u8], token: &Token)
     requires { IsTokenOf text.now token.now }
 {
-    let alloc = *out.allocator();
+    let alloc = out.alloc();
     match token.kind {
-        TokenKind::Name => push_name(out, name_value(alloc, text, token)?),
+        TokenKind::Name => push_name(out, name_value(alloc, text, token)),
         TokenKind::Int(number) => push_integer(out, number),
         TokenKind::Code(code) => push_code(out, code),
         TokenKind::Word(word) => push_words(out, &["word ", word_text(word)]),
         TokenKind::Symbol(symbol) => push_word(out, symbol_text(symbol)),
         TokenKind::Text => {
-            let value = text_value(alloc, text, token)?;
-            let told = push_quoted(out, value.as_slice());
-            drop(value);
-            told
+            push_word(out, "'");
+            push_made(out, text_value(alloc, text, token));
+            push_word(out, "'");
         }
     }
 }
 
 /// Adds a token behind a bar, with its place.
-fn push_token(out: &mut String, bar: &str, text: &[u8], token: &Token) -> Result<(), Memory>
+fn push_token(out: &mut Transcript, bar: &str, text: &[u8], token: &Token)
     requires { IsTokenOf text.now token.now }
 {
-    let barred = push_word(out, bar);
-    let told = push_meaning(out, text, token);
-    let placed = push_word(out, " ").and(push_span(out, &token.span));
-    barred.and(told).and(placed)
+    push_word(out, bar);
+    push_meaning(out, text, token);
+    push_word(out, " ");
+    push_span(out, &token.span);
 }
 
 /// Adds the tokens of a text, each with its place, or where and why it stops to have any.
-pub(crate) fn push_tokens(out: &mut String, text: &[u8]) -> Result<(), Memory>
+pub(crate) fn push_tokens(out: &mut Transcript, text: &[u8])
     requires { length text.now ≤ 1048576 }
 {
-    match tokens(*out.allocator(), text) {
+    match tokens(out.alloc(), text) {
         Ok(found) => {
-            let mut told = Ok(());
             let mut bar = "";
             for token in found.as_slice() {
-                told = told.and(push_token(out, bar, text, token));
+                push_token(out, bar, text, token);
                 bar = " | ";
             }
             drop(found);
-            told
         }
         Err(LexFault::At { at, kind }) => {
-            let placed = push_word(out, "at ").and(push_count(out, u64::from(at)));
-            placed.and(push_words(out, &[": ", fault_text(kind)]))
+            push_word(out, "at ");
+            push_count(out, u64::from(at));
+            push_words(out, &[": ", fault_text(kind)]);
         }
         Err(LexFault::Memory) => push_word(out, "no memory"),
     }

@@ -2,8 +2,7 @@
 
 use crate::words::{front_of, number_in};
 use afl_outside::{Disk, Failed, Sink, Source};
-use cell_values::Memory;
-use test_kit::{push_count, push_text, push_word, push_words};
+use test_kit::{Transcript, push_count, push_text, push_word, push_words};
 
 /// What an object answers to a call.
 #[derive(Clone, Copy)]
@@ -72,28 +71,33 @@ pub(crate) fn answer_of<D: Disk>(disk: &mut D, call: &str) -> Answer {
 }
 
 /// Adds an answer.
-pub(crate) fn push_answer(out: &mut String, answer: Answer) -> Result<(), Memory> {
+pub(crate) fn push_answer(out: &mut Transcript, answer: Answer) {
     match answer {
         Answer::Failed => push_word(out, "failed"),
         Answer::Done => push_word(out, "done"),
-        Answer::Taken(taken) => push_count(out, taken as u64).and(push_word(out, " taken")),
+        Answer::Taken(taken) => {
+            push_count(out, taken as u64);
+            push_word(out, " taken");
+        }
         Answer::Length(length) => push_count(out, length),
         Answer::Given(piece, given) => push_text(out, &piece[..given.min(8)]),
         Answer::Read(piece, count, given) => {
-            let given = push_count(out, given as u64).and(push_word(out, " of "));
-            given.and(push_text(out, &piece[..count.min(8)]))
+            push_count(out, given as u64);
+            push_word(out, " of ");
+            push_text(out, &piece[..count.min(8)]);
         }
     }
 }
 
 /// Adds a line with a call and its answer.
-pub(crate) fn push_answered(out: &mut String, call: &str, answer: Answer) -> Result<(), Memory> {
-    let named = push_words(out, &[call.trim(), ": "]);
-    let told = push_answer(out, answer);
-    named.and(told).and(push_word(out, "\n"))
+pub(crate) fn push_answered(out: &mut Transcript, call: &str, answer: Answer) {
+    push_words(out, &[call.trim(), ": "]);
+    push_answer(out, answer);
+    push_word(out, "\n");
 }
 
 /// Adds one more answer of a line.
-pub(crate) fn push_next(out: &mut String, answer: Answer) -> Result<(), Memory> {
-    push_word(out, ", ").and(push_answer(out, answer))
+pub(crate) fn push_next(out: &mut Transcript, answer: Answer) {
+    push_word(out, ", ");
+    push_answer(out, answer);
 }

@@ -7,66 +7,60 @@ use crate::disks::push_answers;
 use crate::streams::{push_faults, push_source, push_writes};
 use crate::words::front_of;
 use afl_outside::{Disk, Failed, Shelf};
-use cell_values::Memory;
-use test_kit::push_word;
+use test_kit::{Transcript, push_word};
 
-fn push_script<S: Shelf>(
-    out: &mut String,
-    shelf: &mut S,
-    name: &str,
-    calls: &str,
-) -> Result<(), Memory> {
+fn push_script<S: Shelf>(out: &mut Transcript, shelf: &mut S, name: &str, calls: &str) {
     match shelf.script(name) {
         Ok(source) => push_source(out, source, calls),
         Err(Failed) => push_word(out, "failed\n"),
     }
 }
 
-fn push_reply<S: Shelf>(
-    out: &mut String,
-    shelf: &mut S,
-    name: &str,
-    calls: &str,
-) -> Result<(), Memory> {
+fn push_reply<S: Shelf>(out: &mut Transcript, shelf: &mut S, name: &str, calls: &str) {
     match shelf.reply(name) {
         Ok(mut sink) => {
-            let told = push_writes(out, &mut sink, calls);
+            push_writes(out, &mut sink, calls);
             drop(sink);
-            told
         }
         Err(Failed) => push_word(out, "failed\n"),
     }
 }
 
-fn push_device<S: Shelf>(
-    out: &mut String,
-    shelf: &mut S,
-    name: &str,
-    calls: &str,
-) -> Result<(), Memory> {
+fn push_device<S: Shelf>(out: &mut Transcript, shelf: &mut S, name: &str, calls: &str) {
     match shelf.device(name) {
         Ok(mut disk) => {
-            let told = push_answers(out, &mut disk, calls);
-            let counted = push_faults(out, disk.faults(), disk.wants());
+            push_answers(out, &mut disk, calls);
+            push_faults(out, disk.faults(), disk.wants());
             drop(disk);
-            told.and(counted)
         }
         Err(Failed) => push_word(out, "failed\n"),
+    }
+}
+
+/// What is opened.
+enum Opened {
+    Script,
+    Reply,
+    Device,
+    Nothing,
+}
+
+fn opened_by(word: &str) -> Opened {
+    match word {
+        "source" => Opened::Script,
+        "sink" => Opened::Reply,
+        "disk" => Opened::Device,
+        _ => Opened::Nothing,
     }
 }
 
 /// Adds what the stream or file of a shelf answers to calls.
-pub(crate) fn push_real<S: Shelf>(
-    out: &mut String,
-    shelf: &mut S,
-    object: &str,
-    calls: &str,
-) -> Result<(), Memory> {
+pub(crate) fn push_real<S: Shelf>(out: &mut Transcript, shelf: &mut S, object: &str, calls: &str) {
     let (word, name) = front_of(object);
-    match word {
-        "source" => push_script(out, shelf, name, calls),
-        "sink" => push_reply(out, shelf, name, calls),
-        "disk" => push_device(out, shelf, name, calls),
-        _ => push_faults(out, shelf.faults(), shelf.wants()),
+    match opened_by(word) {
+        Opened::Script => push_script(out, shelf, name, calls),
+        Opened::Reply => push_reply(out, shelf, name, calls),
+        Opened::Device => push_device(out, shelf, name, calls),
+        Opened::Nothing => push_faults(out, shelf.faults(), shelf.wants()),
     }
 }

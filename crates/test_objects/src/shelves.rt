@@ -5,7 +5,7 @@ use crate::streams::{push_faults, push_held};
 use crate::words::{front_of, push_numbers};
 use afl_outside::{Disk, Failed, MemFile, MemShelf, MemSink, Shelf, Source};
 use cell_values::{List, Memory};
-use test_kit::{push_word, push_words};
+use test_kit::{Transcript, push_word, push_words};
 
 /// Gives a file a name, a content, and the number of the call that is to fail.
 fn fill(file: &mut MemFile, name: &str, content: &str, fail: u64) -> Result<(), Memory> {
@@ -33,74 +33,56 @@ fn push_file(
     filled.and(files.push(copy?))
 }
 
-fn push_reads<S: Source>(out: &mut String, source: &mut S, counts: &str) -> Result<(), Memory> {
-    let opened = push_word(out, "opened");
+fn push_reads<S: Source>(out: &mut Transcript, source: &mut S, counts: &str) {
+    push_word(out, "opened");
     for count in counts.split_whitespace() {
-        push_next(out, read_of(source, count))?;
+        push_next(out, read_of(source, count));
     }
-    opened.and(push_word(out, "\n"))
+    push_word(out, "\n");
 }
 
-fn push_writes(out: &mut String, sink: &mut MemSink, pieces: &str) -> Result<(), Memory> {
-    let opened = push_word(out, "opened");
+fn push_writes(out: &mut Transcript, sink: &mut MemSink, pieces: &str) {
+    push_word(out, "opened");
     for piece in pieces.split_whitespace() {
-        push_next(out, write_of(sink, piece))?;
+        push_next(out, write_of(sink, piece));
     }
-    let parted = push_word(out, ", ");
-    opened.and(parted).and(push_held(out, sink.bytes()))
+    push_word(out, ", ");
+    push_held(out, sink.bytes());
 }
 
-fn push_answers<D: Disk>(out: &mut String, disk: &mut D, calls: &str) -> Result<(), Memory> {
-    let opened = push_word(out, "opened");
+fn push_answers<D: Disk>(out: &mut Transcript, disk: &mut D, calls: &str) {
+    push_word(out, "opened");
     for call in calls.split_whitespace() {
-        push_next(out, answer_of(disk, call))?;
+        push_next(out, answer_of(disk, call));
     }
-    opened.and(push_word(out, "\n"))
+    push_word(out, "\n");
 }
 
-fn push_script(
-    out: &mut String,
-    shelf: &mut MemShelf,
-    name: &str,
-    counts: &str,
-) -> Result<(), Memory> {
+fn push_script(out: &mut Transcript, shelf: &mut MemShelf, name: &str, counts: &str) {
     match shelf.script(name) {
         Ok(mut source) => {
-            let told = push_reads(out, &mut source, counts);
+            push_reads(out, &mut source, counts);
             drop(source);
-            told
         }
         Err(Failed) => push_word(out, "failed\n"),
     }
 }
 
-fn push_reply(
-    out: &mut String,
-    shelf: &mut MemShelf,
-    name: &str,
-    pieces: &str,
-) -> Result<(), Memory> {
+fn push_reply(out: &mut Transcript, shelf: &mut MemShelf, name: &str, pieces: &str) {
     match shelf.reply(name) {
         Ok(mut sink) => {
-            let told = push_writes(out, &mut sink, pieces);
+            push_writes(out, &mut sink, pieces);
             drop(sink);
-            told
         }
         Err(Failed) => push_word(out, "failed\n"),
     }
 }
 
-fn push_device(
-    out: &mut String,
-    shelf: &mut MemShelf,
-    name: &str,
-    calls: &str,
-) -> Result<(), Memory> {
+fn push_device(out: &mut Transcript, shelf: &mut MemShelf, name: &str, calls: &str) {
     match shelf.device(name) {
         Ok(mut device) => {
-            let told = push_answers(out, &mut device, calls);
+            push_answers(out, &mut device, calls);
             drop(device);
-            told
         }
         Err(Failed) => push_word(out, "failed\n"),
     }
@@ -108,24 +90,23 @@ fn push_device(
 
 /// Opens a file as a call says, and adds what it answers: to reads of these lengths, to pieces that are written, or to calls of
 /// a disk.
-fn push_opened(out: &mut String, shelf: &mut MemShelf, call: &str) -> Result<(), Memory> {
-    let named = push_words(out, &[call.trim(), ": "]);
+fn push_opened(out: &mut Transcript, shelf: &mut MemShelf, call: &str) {
+    push_words(out, &[call.trim(), ": "]);
     let (word, operands) = front_of(call);
     let (name, operands) = front_of(operands);
-    let told = match word {
+    match word {
         "script" => push_script(out, shelf, name, operands),
         "reply" => push_reply(out, shelf, name, operands),
         _ => push_device(out, shelf, name, operands),
-    };
-    named.and(told)
+    }
 }
 
 /// Adds what the files that calls open answer.
-fn push_lines(out: &mut String, shelf: &mut MemShelf, calls: &str) -> Result<(), Memory> {
+fn push_lines(out: &mut Transcript, shelf: &mut MemShelf, calls: &str) {
     for call in calls.split_terminator('|') {
-        push_opened(out, shelf, call)?;
+        push_opened(out, shelf, call);
     }
-    push_faults(out, shelf.faults(), shelf.wants())
+    push_faults(out, shelf.faults(), shelf.wants());
 }
 
 /// Adds the files and replies of a shelf, and the numbers of its calls that are to fail.
@@ -144,14 +125,14 @@ fn push_files(
 
 /// Adds what a shelf answers to calls: with the file `db` of the bytes `page`, whose call 1 fails, `s` with `a;`, whose call 0
 /// fails, and the reply `s.out` with `old:`, whose call 1 fails.
-pub(crate) fn push_shelf(out: &mut String, fails: &str, calls: &str) -> Result<(), Memory> {
-    let alloc = *out.allocator();
+pub(crate) fn push_shelf(out: &mut Transcript, fails: &str, calls: &str) {
+    let alloc = out.alloc();
     let mut files = List::new(alloc);
     let mut replies = List::new(alloc);
     let mut numbers = List::new(alloc);
     let filled = push_files(&mut files, &mut replies, &mut numbers, fails);
+    out.note(filled.is_ok());
     let mut shelf = MemShelf::new(files, replies, numbers);
-    let told = push_lines(out, &mut shelf, calls);
+    push_lines(out, &mut shelf, calls);
     drop(shelf);
-    filled.and(told)
 }

@@ -3,13 +3,16 @@ ghost use Rattle.std.specs.Prelude.{OnErr};
 ghost use Rattle.page_file.specs.OpeningOpened.{AreFresh};
 ghost use Rattle.page_chain.specs.Standing.{IsTarget};
 
+use crate::files::new_file;
 use crate::images::{RECORD, Seen, catalogue_of, seen_behind};
 use afl_outside::{Disk, Failed, MemDisk};
-use anyhow::Result;
 use cell_values::{Bytes, List, Memory};
 use page_file::PageFile;
 use std::alloc::Global;
-use test_kit::{commit_base, commit_record, disk_bytes, disk_of, made, open};
+use test_kit::{
+    Transcript, commit_base, commit_record, disk_bytes, disk_of, open, push_count, push_word,
+    push_words,
+};
 
 /// A commit, with the pages that it writes.
 #[derive(Clone, Copy)]
@@ -93,93 +96,89 @@ fn committed(alloc: Global, case: &Case) -> Result<Bytes, Memory> {
     disk_bytes(&disk)
 }
 
-fn tell_seen(rt: &impl Print, seen: Seen) -> Result<()> {
+fn push_seen(out: &mut Transcript, seen: Seen) {
     let old = if seen.old { "o" } else { "" };
     let new = if seen.new { "n" } else { "" };
     let format = if seen.new_in_format_one { "f" } else { "" };
     let wrong = if seen.wrong { "x" } else { "" };
-    print!(rt; " {old}{new}{format}{wrong}")?;
-    Ok(())
+    push_words(out, &[" ", old, new, format, wrong]);
 }
 
-/// Prints what the images open as, for each moment behind so many calls or more.
-fn tell_moments(
-    rt: &(impl Print + AllocGlobal),
-    disk: &MemDisk,
-    from: usize,
-    before: u64,
-) -> Result<()> {
+/// Adds what the images open as, for each moment behind so many calls or more.
+fn push_moments(out: &mut Transcript, disk: &MemDisk, from: usize, before: u64) {
     for calls in from..disk.calls().len().saturating_add(1) {
-        tell_seen(rt, seen_behind(rt.alloc(), disk, calls, before)?)?;
+        match seen_behind(out.alloc(), disk, calls, before) {
+            Ok(seen) => push_seen(out, seen),
+            Err(Memory) => out.note_short(),
+        }
     }
-    Ok(())
 }
 
-/// Prints what came of a commit. Where it wasn't done it is tried again, with the target closed at the end.
-fn tell_made(
-    rt: &(impl Print + AllocGlobal),
+/// Adds what a commit leaves whose target is closed behind it where it wasn't done, from so many calls on.
+fn push_closed(out: &mut Transcript, case: &Case, fails: Option<u64>, from: usize) {
+    match attempt(out.alloc(), case, fails, true) {
+        Ok((_, disk)) => {
+            push_moments(out, &disk, from, case.sequence);
+            drop(disk);
+        }
+        Err(Memory) => out.note_short(),
+    }
+}
+
+/// Adds what came of a commit. Where it wasn't done it is tried again, with the target closed at the end.
+fn push_outcome(
+    out: &mut Transcript,
     case: &Case,
     fails: Option<u64>,
     outcome: Outcome,
     disk: &MemDisk,
-) -> Result<()> {
+) {
     let word = match outcome {
         Outcome::NotOpened => "not opened:",
         Outcome::NotDone => "not done:",
         Outcome::Done => "done:",
     };
-    print!(rt; "{word}")?;
-    tell_moments(rt, disk, 0, case.sequence)?;
+    push_word(out, word);
+    push_moments(out, disk, 0, case.sequence);
     if outcome == Outcome::NotDone {
-        print!(rt; ", then closed:")?;
-        tell_closed(rt, case, fails, disk.calls().len().saturating_add(1))?;
+        push_word(out, ", then closed:");
+        push_closed(out, case, fails, disk.calls().len().saturating_add(1));
     }
-    println!(rt; "")?;
-    Ok(())
+    push_word(out, "\n");
 }
 
-/// Makes the commit, and prints what comes of it.
-fn tell_attempt(rt: &(impl Print + AllocGlobal), case: &Case, fails: Option<u64>) -> Result<()> {
-    let (outcome, disk) = attempt(rt.alloc(), case, fails, false)?;
-    tell_made(rt, case, fails, outcome, &disk)
-}
-
-/// The same where the target is closed behind a commit that wasn't done, from so many calls on.
-fn tell_closed(
-    rt: &(impl Print + AllocGlobal),
-    case: &Case,
-    fails: Option<u64>,
-    from: usize,
-) -> Result<()> {
-    let (_, disk) = attempt(rt.alloc(), case, fails, true)?;
-    tell_moments(rt, &disk, from, case.sequence)
+/// Makes the commit, and adds what comes of it.
+fn push_attempt(out: &mut Transcript, case: &Case, fails: Option<u64>) {
+    match attempt(out.alloc(), case, fails, false) {
+        Ok((outcome, disk)) => {
+            push_outcome(out, case, fails, outcome, &disk);
+            drop(disk);
+        }
+        Err(Memory) => out.note_short(),
+    }
 }
 
 /// The commit with no call failing, and with each of so many calls failing in turn.
-fn tell_commit(
-    rt: &(impl Print + AllocGlobal),
-    title: &str,
-    case: &Case,
-    calls: u64,
-) -> Result<()> {
-    println!(rt; "{title}")?;
-    print!(rt; "no call fails, ")?;
-    tell_attempt(rt, case, None)?;
+fn push_commit(out: &mut Transcript, case: &Case, calls: u64) {
+    push_word(out, "no call fails, ");
+    push_attempt(out, case, None);
     for call in 0..calls {
-        print!(rt; "call {call} fails, ")?;
-        tell_attempt(rt, case, Some(call))?;
+        push_word(out, "call ");
+        push_count(out, call);
+        push_word(out, " fails, ");
+        push_attempt(out, case, Some(call));
     }
-    Ok(())
 }
 
-fn record_on(alloc: Global, file: Bytes) -> Result<Case, Memory> {
-    let content = List::from_slice(alloc, &RECORD)?;
-    Ok(Case {
-        file,
-        sequence: 1,
-        commit: Commit::Record { page: 3 },
-        content,
-    })
+fn push_case(out: &mut Transcript, title: &str, case: Result<Case, Memory>, calls: u64) {
+    push_words(out, &[title, "\n"]);
+    match case {
+        Ok(case) => {
+            push_commit(out, &case, calls);
+            drop(case);
+        }
+        Err(Memory) => out.note_short(),
+    }
 }
 
 fn base_on(alloc: Global, file: Bytes, sequence: u64, page: u32, log: u32) -> Result<Case, Memory> {
@@ -192,29 +191,37 @@ fn base_on(alloc: Global, file: Bytes, sequence: u64, page: u32, log: u32) -> Re
     })
 }
 
-fn first_base(alloc: Global) -> Result<Case> {
-    Ok(base_on(alloc, made(alloc)?, 1, 3, 4)?)
+fn first_record(alloc: Global) -> Result<Case, Memory> {
+    Ok(Case {
+        file: new_file(alloc)?,
+        sequence: 1,
+        commit: Commit::Record { page: 3 },
+        content: List::from_slice(alloc, &RECORD)?,
+    })
+}
+
+fn first_base(alloc: Global) -> Result<Case, Memory> {
+    base_on(alloc, new_file(alloc)?, 1, 3, 4)
 }
 
 /// The file behind the first base.
-fn behind_base(alloc: Global) -> Result<Bytes> {
+fn behind_base(alloc: Global) -> Result<Bytes, Memory> {
     let base = first_base(alloc)?;
-    Ok(committed(alloc, &base)?)
+    let file = committed(alloc, &base);
+    drop(base);
+    file
 }
 
-/// Prints for each commit and each call that fails what the images open as, after each number of calls: o as before the commit, n with the
+fn second_base(alloc: Global) -> Result<Case, Memory> {
+    base_on(alloc, behind_base(alloc)?, 2, 5, 6)
+}
+
+/// Adds for each commit and each call that fails what the images open as, after each number of calls: o as before the commit, n with the
 /// slot that was committed, f with its root in format 1, x anything else.
-pub(crate) fn tell_crashes(rt: &(impl Print + AllocGlobal)) -> Result<()> {
-    let record = record_on(rt.alloc(), made(rt.alloc())?)?;
-    let told = tell_commit(rt, "a record", &record, 9);
-    drop(record);
-    told?;
-    let base = first_base(rt.alloc())?;
-    let told = tell_commit(rt, "a base", &base, 10);
-    drop(base);
-    told?;
-    let next = base_on(rt.alloc(), behind_base(rt.alloc())?, 2, 5, 6)?;
-    let told = tell_commit(rt, "a base over an open slot", &next, 11);
-    drop(next);
-    told
+pub(crate) fn push_crashes(out: &mut Transcript) {
+    push_word(out, "### crashes\n");
+    let alloc = out.alloc();
+    push_case(out, "a record", first_record(alloc), 9);
+    push_case(out, "a base", first_base(alloc), 10);
+    push_case(out, "a base over an open slot", second_base(alloc), 11);
 }

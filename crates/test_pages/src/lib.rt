@@ -10,38 +10,17 @@ mod opens;
 mod rows;
 mod writing;
 
-use anyhow::Result;
-use chains::tell_chains;
-use crashes::tell_crashes;
-use rows::tell_rows;
+use chains::push_chains;
+use crashes::push_crashes;
+use rows::push_rows;
+use test_kit::Transcript;
 
-/// A table of cases.
-#[derive(Clone, Copy)]
-enum Table {
-    Chains,
-    Files,
-    Crashes,
-}
-
-/// The table below a title.
-fn table_of(title: &str) -> Option<Table> {
+/// Adds the title of a table of files of a few pages, and what comes of its cases; nothing where the title is another one.
+pub fn push_page_table(out: &mut Transcript, title: &str) {
     match title {
-        "chains" => Some(Table::Chains),
-        "files of few pages" => Some(Table::Files),
-        "crashes" => Some(Table::Crashes),
-        _ => None,
-    }
-}
-
-/// Prints the title of a table of files of a few pages, and what comes of its cases; nothing where the title is another one.
-pub fn tell_page_table(rt: &(impl Print + AllocGlobal), title: &str) -> Result<()> {
-    let Some(table) = table_of(title) else {
-        return Ok(());
-    };
-    println!(rt; "### {title}")?;
-    match table {
-        Table::Chains => tell_chains(rt),
-        Table::Files => tell_rows(rt),
-        Table::Crashes => tell_crashes(rt),
+        "chains" => push_chains(out),
+        "files of few pages" => push_rows(out),
+        "crashes" => push_crashes(out),
+        _ => {}
     }
 }

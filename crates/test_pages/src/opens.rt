@@ -1,72 +1,79 @@
 //! What a file opens as.
 
-use afl_outside::Disk;
-use anyhow::Result;
-use cell_values::Bytes;
+use crate::files::push_cause;
+use afl_outside::{Disk, MemDisk};
+use cell_values::{Bytes, List, Memory};
 use page_chain::{OpenCause, Slot};
 use page_file::PageFile;
 use std::alloc::Global;
-use test_kit::{disk_of, open};
+use test_kit::{Transcript, disk_of, open, push_count, push_word, push_words};
 
-fn tell_target(rt: &impl Print, slot: Slot) -> Result<()> {
+fn push_target(out: &mut Transcript, slot: Slot) {
     match slot {
-        Slot::A => print!(rt; ", target A")?,
-        Slot::B => print!(rt; ", target B")?,
-        Slot::Log(entry) => print!(rt; ", target entry {entry}")?,
+        Slot::A => push_word(out, ", target A"),
+        Slot::B => push_word(out, ", target B"),
+        Slot::Log(entry) => {
+            push_word(out, ", target entry ");
+            push_count(out, u64::from(entry));
+        }
     }
-    Ok(())
 }
 
-fn tell_chain(rt: &impl Print, name: &str, answer: Result<Bytes, OpenCause>) -> Result<()> {
+/// Adds how many bytes a chain has, or why it was not read.
+fn push_chain(out: &mut Transcript, name: &str, answer: Result<(Bytes, List<u32>), OpenCause>) {
+    push_words(out, &[", ", name]);
     match answer {
-        Ok(bytes) => print!(rt; ", {name} of {} bytes", bytes.len())?,
-        Err(cause) => print!(rt; ", {name}: {cause}")?,
+        Ok((bytes, pages)) => {
+            drop(pages);
+            push_word(out, " of ");
+            push_count(out, bytes.len() as u64);
+            drop(bytes);
+            push_word(out, " bytes");
+        }
+        Err(cause) => {
+            push_word(out, ": ");
+            push_cause(out, cause);
+        }
     }
-    Ok(())
 }
 
-fn read_catalogue<D: Disk>(alloc: Global, file: &mut PageFile<D>) -> Result<Bytes, OpenCause> {
+fn push_file<D: Disk>(out: &mut Transcript, file: &mut PageFile<D>) {
+    let alloc = out.alloc();
     let root = file.root();
-    let (bytes, _) = file.read_chain(alloc, root)?;
-    Ok(bytes)
-}
-
-fn tell_file<D: Disk>(rt: &(impl Print + AllocGlobal), file: &mut PageFile<D>) -> Result<()> {
-    let root = file.root();
-    print!(rt; "sequence {}, log page {}", root.sequence, root.log)?;
-    tell_target(rt, file.target())?;
-    let catalogue = read_catalogue(rt.alloc(), file);
-    tell_chain(rt, "catalogue", catalogue)?;
-    tell_record(rt, file)
-}
-
-fn tell_record<D: Disk>(rt: &(impl Print + AllocGlobal), file: &mut PageFile<D>) -> Result<()> {
-    if file.records().len() == 0 {
-        return Ok(());
-    }
-    let log = file.root().log;
-    match file.read_record(rt.alloc(), 0, &[log]) {
-        Ok((bytes, _)) => tell_chain(rt, "record", Ok(bytes)),
-        Err(cause) => tell_chain(rt, "record", Err(cause)),
+    push_word(out, "sequence ");
+    push_count(out, root.sequence);
+    push_word(out, ", log page ");
+    push_count(out, u64::from(root.log));
+    push_target(out, file.target());
+    push_chain(out, "catalogue", file.read_chain(alloc, root));
+    if file.records().len() != 0 {
+        push_chain(out, "record", file.read_record(alloc, 0, &[root.log]));
     }
 }
 
-fn tell_cause(rt: &impl Print, cause: OpenCause) -> Result<()> {
-    print!(rt; "{cause}")?;
-    Ok(())
-}
-
-fn tell_disk<D: Disk + Drop>(rt: &(impl Print + AllocGlobal), disk: D) -> Result<()> {
+fn push_disk<D: Disk + Drop>(out: &mut Transcript, disk: D) {
     match open(disk) {
-        Err((cause, _)) => tell_cause(rt, cause),
-        Ok(mut file) => tell_file(rt, &mut file),
+        Ok(mut file) => {
+            push_file(out, &mut file);
+            drop(file);
+        }
+        Err((cause, disk)) => {
+            drop(disk);
+            push_cause(out, cause);
+        }
     }
 }
 
-/// Opens a file, and prints its current root, its target, its catalogue and the first record of its log.
-pub(crate) fn tell_open(rt: &(impl Print + AllocGlobal), title: &str, bytes: Bytes) -> Result<()> {
-    print!(rt; "{title}: ")?;
-    tell_disk(rt, disk_of(rt.alloc(), bytes, None)?)?;
-    println!(rt; "")?;
-    Ok(())
+fn disk_with(alloc: Global, file: Result<Bytes, Memory>) -> Result<MemDisk, Memory> {
+    disk_of(alloc, file?, None)
+}
+
+/// Opens a file, and adds its current root, its target, its catalogue and the first record of its log.
+pub(crate) fn push_open(out: &mut Transcript, title: &str, file: Result<Bytes, Memory>) {
+    push_words(out, &[title, ": "]);
+    match disk_with(out.alloc(), file) {
+        Ok(disk) => push_disk(out, disk),
+        Err(Memory) => out.note_short(),
+    }
+    push_word(out, "\n");
 }

@@ -1,22 +1,29 @@
 //! Files with known bytes, and what they open as.
 
-use crate::opens::tell_open;
+use crate::files::{changed_file, new_file, old_file};
+use crate::opens::push_open;
 use afl_outside::{Disk, Failed};
-use anyhow::Result;
 use cell_values::{Bytes, List, Memory};
 use std::alloc::Global;
-use test_kit::{changed, commit_base, cut, disk_bytes, disk_of, made, of_format_one, open};
+use test_kit::{
+    Transcript, commit_base, cut, disk_bytes, disk_of, open, push_count, push_word, push_words,
+    truth_word,
+};
 
-/// Prints the length of a file, and each byte of it that isn't 0 behind its place.
-fn tell_bytes(rt: &impl Print, title: &str, file: &Bytes) -> Result<()> {
-    print!(rt; "{title}: {} bytes", file.len())?;
+/// Adds the length of a file, and each byte of it that isn't 0 behind its place.
+fn push_bytes(out: &mut Transcript, title: &str, file: &Bytes) {
+    push_words(out, &[title, ": "]);
+    push_count(out, file.len() as u64);
+    push_word(out, " bytes");
     for (place, byte) in file.as_slice().iter().enumerate() {
         if *byte != 0 {
-            print!(rt; ", {place} is {byte}")?;
+            push_word(out, ", ");
+            push_count(out, place as u64);
+            push_word(out, " is ");
+            push_count(out, u64::from(*byte));
         }
     }
-    println!(rt; "")?;
-    Ok(())
+    push_word(out, "\n");
 }
 
 /// Opens and reads a file, and hands its disk back. None where that isn't done.
@@ -60,8 +67,8 @@ fn commit_on<D: Disk + Drop>(disk: D) -> Option<D> {
 }
 
 /// The file with a base of one byte, and of no bytes where that isn't committed.
-fn with_base(alloc: Global, bytes: Bytes) -> Result<Bytes, Memory> {
-    match commit_on(disk_of(alloc, bytes, None)?) {
+fn with_base(alloc: Global, bytes: &Bytes) -> Result<Bytes, Memory> {
+    match commit_on(disk_of(alloc, bytes.copy()?, None)?) {
         None => Ok(List::new(alloc)),
         Some(disk) => {
             let bytes = disk_bytes(&disk);
@@ -72,66 +79,82 @@ fn with_base(alloc: Global, bytes: Bytes) -> Result<Bytes, Memory> {
 }
 
 /// A file of format 1 is opened, and stays as it is. A base that is committed to it is of format 2.
-fn tell_migration(rt: &(impl Print + AllocGlobal), old: &Bytes) -> Result<()> {
-    tell_bytes(rt, "format 1", old)?;
-    tell_open(rt, "format 1 opened", old.copy()?)?;
-    let same = is_left_as_it_is(rt.alloc(), old)?;
-    println!(rt; "its bytes are the same: {same}")?;
-    let new = with_base(rt.alloc(), old.copy()?)?;
-    tell_bytes(rt, "with a new base", &new)?;
-    tell_open(rt, "with a new base, opened", new)
+fn push_migration(out: &mut Transcript, old: &Bytes) {
+    push_bytes(out, "format 1", old);
+    push_open(out, "format 1 opened", old.copy());
+    match is_left_as_it_is(out.alloc(), old) {
+        Ok(is_same) => push_words(
+            out,
+            &["its bytes are the same: ", truth_word(is_same), "\n"],
+        ),
+        Err(Memory) => out.note_short(),
+    }
+    match with_base(out.alloc(), old) {
+        Ok(new) => {
+            push_bytes(out, "with a new base", &new);
+            push_open(out, "with a new base, opened", Ok(new));
+        }
+        Err(Memory) => out.note_short(),
+    }
 }
 
-/// Opens the file with these bytes over it at a place.
-fn tell_changed(
-    rt: &(impl Print + AllocGlobal),
-    title: &str,
-    file: &Bytes,
-    at: u64,
-    bytes: &[u8],
-) -> Result<()> {
-    tell_open(rt, title, changed(rt.alloc(), file, at, bytes)?)
+/// Opens the file with another byte at a place.
+fn push_changed(out: &mut Transcript, title: &str, file: &Bytes, at: u64, byte: u8) {
+    let changed = changed_file(out.alloc(), file, at, &[byte]);
+    push_open(out, title, changed);
 }
 
 /// Opens a file that was made, and such files with another front.
-fn tell_new_file(rt: &(impl Print + AllocGlobal), file: &Bytes) -> Result<()> {
-    tell_bytes(rt, "a database that was made", file)?;
-    tell_open(rt, "opened", file.copy()?)?;
-    tell_open(rt, "an empty file", cut(rt.alloc(), file, 0)?)?;
-    tell_open(rt, "page 0 cut", cut(rt.alloc(), file, 4095)?)?;
-    tell_changed(rt, "another text", file, 7, b"F")?;
-    tell_changed(rt, "format 3", file, 8, &[3])?;
-    tell_changed(rt, "no slot open", file, 512, &[255])?;
-    tell_changed(rt, "a log page past the end", file, 540, &[3])?;
-    tell_changed(rt, "an open entry of no bytes", file, 8192, &[1])?;
-    tell_changed(rt, "an open entry behind a closed one", file, 8256, &[1])
+fn push_new_file(out: &mut Transcript, file: &Bytes) {
+    let alloc = out.alloc();
+    push_bytes(out, "a database that was made", file);
+    push_open(out, "opened", file.copy());
+    push_open(out, "an empty file", cut(alloc, file, 0));
+    push_open(out, "page 0 cut", cut(alloc, file, 4095));
+    push_changed(out, "another text", file, 7, b'F');
+    push_changed(out, "format 3", file, 8, 3);
+    push_changed(out, "no slot open", file, 512, 255);
+    push_changed(out, "a log page past the end", file, 540, 3);
+    push_changed(out, "an open entry of no bytes", file, 8192, 1);
+    push_changed(out, "an open entry behind a closed one", file, 8256, 1);
 }
 
 /// Opens a file of format 1, and such files that are damaged.
-fn tell_old_file(rt: &(impl Print + AllocGlobal), old: &Bytes) -> Result<()> {
-    tell_migration(rt, old)?;
-    tell_open(rt, "format 1 without page 1", cut(rt.alloc(), old, 4096)?)?;
-    tell_changed(
-        rt,
+fn push_old_file(out: &mut Transcript, old: &Bytes) {
+    let alloc = out.alloc();
+    push_migration(out, old);
+    push_open(out, "format 1 without page 1", cut(alloc, old, 4096));
+    push_changed(
+        out,
         "format 1 with a link behind the last page",
         old,
         4096,
-        &[1],
-    )?;
-    let both = changed(rt.alloc(), old, 1024, &[1])?;
-    tell_changed(
-        rt,
-        "format 1 with two slots of sequence 1",
-        &both,
-        1032,
-        &[1],
-    )
+        1,
+    );
+    match changed_file(alloc, old, 1024, &[1]) {
+        Ok(both) => {
+            push_changed(out, "format 1 with two slots of sequence 1", &both, 1032, 1);
+            drop(both);
+        }
+        Err(Memory) => out.note_short(),
+    }
 }
 
-/// Prints what files open as, and where they are no database.
-pub(crate) fn tell_rows(rt: &(impl Print + AllocGlobal)) -> Result<()> {
-    let file = made(rt.alloc())?;
-    tell_new_file(rt, &file)?;
-    let old = of_format_one(rt.alloc())?;
-    tell_old_file(rt, &old)
+/// Adds what files open as, and where they are no database.
+pub(crate) fn push_rows(out: &mut Transcript) {
+    push_word(out, "### files of few pages\n");
+    match new_file(out.alloc()) {
+        Ok(file) => {
+            push_new_file(out, &file);
+            drop(file);
+        }
+        Err(Memory) => out.note_short(),
+    }
+    match old_file(out.alloc()) {
+        Ok(old) => {
+            push_old_file(out, &old);
+            drop(old);
+        }
+        Err(Memory) => out.note_short(),
+    }
 }

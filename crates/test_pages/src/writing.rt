@@ -4,18 +4,11 @@ ghost use Rattle.page_chain.specs.Pages.{page_size, pages_for};
 ghost use Rattle.page_chain.specs.Chains.{content_size};
 
 use afl_outside::{Disk, Failed};
-use cell_values::Memory;
 use page_chain::{blob_pages, chain_pages, write_blob, write_chain};
-use std::alloc::Global;
 
 /// Writes 5,000 bytes 7 as a chain to pages 2 and 1, and 5,000 bytes 8 as a blob to pages 4 and 3. Whether both were written.
-pub(crate) fn write_two<D: Disk>(alloc: Global, disk: &mut D) -> Result<bool, Memory> {
-    let sevens = vec![in alloc; 7u8; 5000]?;
-    let eights = vec![in alloc; 8u8; 5000]?;
-    Ok(
-        chain_to(disk, 2, 1, sevens.as_slice()).is_ok()
-            && blob_to(disk, 4, 3, eights.as_slice()).is_ok(),
-    )
+pub(crate) fn write_two<D: Disk>(disk: &mut D) -> bool {
+    chain_to(disk, 2, 1, &[7; 5000]).is_ok() && blob_to(disk, 4, 3, &[8; 5000]).is_ok()
 }
 
 fn chain_to<D: Disk>(disk: &mut D, first: u32, second: u32, bytes: &[u8]) -> Result<(), Failed> {

@@ -3,9 +3,10 @@
 use cell_values::{Bytes, List, Memory, Name};
 use page_file::OpenCause;
 use result_print::{Refusal, refusal_line};
+use std::alloc::AllocError;
 use std::str::from_utf8;
 use store_state::ReadFault;
-use test_kit::{push_count, push_word};
+use test_kit::{Transcript, push_count, push_word};
 
 /// What a step is answered.
 pub enum Answer {
@@ -84,48 +85,49 @@ impl Drop for Answer {
 }
 
 /// Adds a number between two texts.
-pub fn push_numbered(
-    out: &mut String,
-    before: &str,
-    number: u64,
-    behind: &str,
-) -> Result<(), Memory> {
-    push_word(out, before)
-        .and(push_count(out, number))
-        .and(push_word(out, behind))
+pub fn push_numbered(out: &mut Transcript, before: &str, number: u64, behind: &str) {
+    push_word(out, before);
+    push_count(out, number);
+    push_word(out, behind);
 }
 
-fn push_numbers(out: &mut String, numbers: &[u32]) -> Result<(), Memory> {
+fn push_numbers(out: &mut Transcript, numbers: &[u32]) {
     for number in numbers {
-        push_numbered(out, "", u64::from(*number), " ")?;
+        push_numbered(out, "", u64::from(*number), " ");
     }
-    push_word(out, "\n")
+    push_word(out, "\n");
 }
 
-fn push_refusal(out: &mut String, refusal: &Refusal) -> Result<(), Memory> {
-    let line = refusal_line(*out.allocator(), refusal)?;
-    let told = push_word(out, from_utf8(line.as_slice()).unwrap_or("no text\n"));
-    drop(line);
-    told
+fn push_lines(out: &mut Transcript, lines: &Bytes) {
+    push_word(out, from_utf8(lines.as_slice()).unwrap_or("no text\n"));
 }
 
-fn push_made(out: &mut String, name: &Name, version: u32) -> Result<(), Memory> {
-    push_word(out, "ok ")
-        .and(push_word(out, from_utf8(name.as_slice()).unwrap_or("no text")))
-        .and(push_numbered(out, "@", u64::from(version), "\n"))
+fn push_refusal(out: &mut Transcript, refusal: &Refusal) {
+    match refusal_line(out.alloc(), refusal) {
+        Ok(line) => {
+            push_lines(out, &line);
+            drop(line);
+        }
+        Err(Memory) => out.note_short(),
+    }
 }
 
-fn push_full(out: &mut String, needed: u32, free: u32) -> Result<(), Memory> {
-    push_numbered(out, "error: full: needs ", u64::from(needed), " pages, ").and(push_numbered(
-        out,
-        "",
-        u64::from(free),
-        " free\n",
-    ))
+fn push_version(out: &mut Transcript, name: &Name, version: u32) {
+    push_word(out, "ok ");
+    push_word(out, from_utf8(name.as_slice()).unwrap_or("no text"));
+    push_numbered(out, "@", u64::from(version), "\n");
 }
 
-fn push_cause(out: &mut String, cause: &OpenCause) -> Result<(), Memory> {
-    Ok(writeln!(out, "error: {cause}")?)
+fn push_full(out: &mut Transcript, needed: u32, free: u32) {
+    push_numbered(out, "error: full: needs ", u64::from(needed), " pages, ");
+    push_numbered(out, "", u64::from(free), " free\n");
+}
+
+fn push_cause(out: &mut Transcript, cause: &OpenCause) {
+    match format!(in out.alloc(); "error: {cause}\n") {
+        Ok(line) => push_word(out, line.as_str()),
+        Err(AllocError) => out.note_short(),
+    }
 }
 
 impl Answer {
@@ -169,7 +171,7 @@ impl Answer {
     }
 
     /// Adds an answer that tells a number, or only its line.
-    fn push_plain(&self, out: &mut String) -> Result<(), Memory> {
+    fn push_plain(&self, out: &mut Transcript) {
         match self.number() {
             Some((before, number, behind)) => push_numbered(out, before, number, behind),
             None => push_word(out, self.line()),
@@ -177,12 +179,10 @@ impl Answer {
     }
 
     /// Adds it in words, as lines.
-    fn push(&self, out: &mut String) -> Result<(), Memory> {
+    fn push(&self, out: &mut Transcript) {
         match self {
-            Answer::Made { name, version } => push_made(out, name, *version),
-            Answer::Lines(lines) => {
-                push_word(out, from_utf8(lines.as_slice()).unwrap_or("no text\n"))
-            }
+            Answer::Made { name, version } => push_version(out, name, *version),
+            Answer::Lines(lines) => push_lines(out, lines),
             Answer::Numbers(numbers) => push_numbers(out, numbers.as_slice()),
             Answer::Refused(refusal) => push_refusal(out, refusal),
             Answer::Full { needed, free } => push_full(out, *needed, *free),
@@ -192,9 +192,8 @@ impl Answer {
     }
 
     /// Adds it in words, as lines, and lets it go.
-    pub fn tell(self, out: &mut String) -> Result<(), Memory> {
-        let told = self.push(out);
+    pub fn tell(self, out: &mut Transcript) {
+        self.push(out);
         drop(self);
-        told
     }
 }

@@ -3,31 +3,30 @@
 use crate::answers::push_numbered;
 use crate::watch::Watch;
 use afl_outside::DeviceCall;
-use cell_values::Memory;
-use test_kit::{push_count, push_word};
+use test_kit::{Transcript, push_count, push_word};
 
 /// How many bytes a page has.
 const PAGE: u64 = 4096;
 
 /// Adds a write: of a whole page as `p3`, else as `p2+8:1`, which is one byte at byte 8 of page 2.
-fn push_write(out: &mut String, at: u64, length: u64) -> Result<(), Memory> {
+fn push_write(out: &mut Transcript, at: u64, length: u64) {
     let (page, place) = (at / PAGE, at % PAGE);
     if place == 0 && length == PAGE {
-        push_numbered(out, " p", page, "")
+        push_numbered(out, " p", page, "");
     } else {
-        push_numbered(out, " p", page, "+")
-            .and(push_numbered(out, "", place, ":"))
-            .and(push_count(out, length))
+        push_numbered(out, " p", page, "+");
+        push_numbered(out, "", place, ":");
+        push_count(out, length);
     }
 }
 
 /// Adds a write or a sync.
-fn push_call(out: &mut String, call: &DeviceCall) -> Result<(), Memory> {
+fn push_call(out: &mut Transcript, call: &DeviceCall) {
     match call {
         DeviceCall::Write { at, bytes } => push_write(out, *at, bytes.len() as u64),
         DeviceCall::Sync { done: true } => push_word(out, " sync"),
         DeviceCall::Sync { done: false } => push_word(out, " failed-sync"),
-        DeviceCall::Length | DeviceCall::Read { .. } => Ok(()),
+        DeviceCall::Length | DeviceCall::Read { .. } => {}
     }
 }
 
@@ -42,21 +41,20 @@ fn reads_in(calls: &[DeviceCall]) -> u64 {
 }
 
 /// Adds how many reads there are, and then each write and each sync in order.
-fn push_calls(out: &mut String, calls: &[DeviceCall]) -> Result<(), Memory> {
-    push_numbered(out, "", reads_in(calls), " reads;")?;
+fn push_calls(out: &mut Transcript, calls: &[DeviceCall]) {
+    push_numbered(out, "", reads_in(calls), " reads;");
     for call in calls {
-        push_call(out, call)?;
+        push_call(out, call);
     }
-    Ok(())
 }
 
 /// Adds what the calls from one on cost.
-pub fn push_costs(out: &mut String, watch: &Watch, from: usize) -> Result<(), Memory> {
+pub fn push_costs(out: &mut Transcript, watch: &Watch, from: usize) {
     match watch.disk.try_borrow() {
         Ok(disk) => {
             let calls = disk.calls();
-            push_calls(out, &calls[from.min(calls.len())..])
+            push_calls(out, &calls[from.min(calls.len())..]);
         }
-        Err(_) => Ok(()),
+        Err(_) => {}
     }
 }

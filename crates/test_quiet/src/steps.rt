@@ -36,14 +36,17 @@ fn step_in<'a>(word: &str, text: &'a str) -> Option<Step<'a>> {
     }
 }
 
-/// The session whose step a line is, and the step; none where it is no step of a session.
-pub fn step_of(line: &str) -> Option<(&str, Step<'_>)> {
+/// The number of the session whose step a line is, and the step; none where it is no step of a session.
+pub fn step_of(line: &str) -> Option<(u32, Step<'_>)> {
     let Some((word, rest)) = line.split_once(' ') else {
         return None;
     };
     let (session, text) = rest.split_once(' ').unwrap_or((rest, ""));
     match step_in(word, text) {
-        Some(step) => Some((session, step)),
+        Some(step) => match session.parse::<u32>() {
+            Ok(session) => Some((session, step)),
+            Err(_) => None,
+        },
         None => None,
     }
 }

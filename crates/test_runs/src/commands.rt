@@ -12,6 +12,7 @@ use cell_values::Memory;
 use std::sync::Wait;
 use std::thread::Threads;
 use std::time::Clock;
+use test_kit::Transcript;
 
 /// The command line that is run for a word, and whether a script is run by it.
 fn line_of<'a>(word: &str, text: &'a str) -> (&'a str, bool) {
@@ -42,21 +43,15 @@ fn files_of<R: AllocGlobal + Threads + Wait + Clock + Sync>(
 /// Adds what the run of a line comes to, by the word that it begins with.
 pub(crate) fn push_command<R: AllocGlobal + Threads + Wait + Clock + Sync>(
     rt: &R,
-    out: &mut String,
+    out: &mut Transcript,
     line: &str,
-) -> Result<(), Memory> {
+) {
     let (word, text) = line.split_once(':').unwrap_or((line, ""));
     let (line, is_script) = line_of(word, text);
     let text = text.trim_start();
-    push_run(rt, out, line, files_of(rt, word, text)?, !is_script)?;
+    push_run(rt, out, line, files_of(rt, word, text), !is_script);
     if word == "workers" {
-        push_run(
-            rt,
-            out,
-            "run db --workers 8 -",
-            files_of(rt, word, text)?,
-            false,
-        )?;
+        let files = files_of(rt, word, text);
+        push_run(rt, out, "run db --workers 8 -", files, false);
     }
-    Ok(())
 }

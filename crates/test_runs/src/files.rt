@@ -60,15 +60,33 @@ fn one_file(name: &str, content: Bytes, fails: Option<u64>) -> Result<List<MemFi
     Ok(files)
 }
 
+/// The standard streams over the script that a text stands for, of which the read and the write of these numbers fail.
+fn streams_over(
+    alloc: Global,
+    text: &str,
+    reads: Option<u64>,
+    writes: Option<u64>,
+) -> Result<MemShelf, Memory> {
+    let scripts = one_file("-", script_of(alloc, text)?, reads)?;
+    match one_file("-", Bytes::new(alloc), writes) {
+        Ok(replies) => Ok(MemShelf::new(scripts, replies, List::new(alloc))),
+        Err(Memory) => {
+            drop(scripts);
+            Err(Memory)
+        }
+    }
+}
+
 /// The standard streams over the script that a line stands for. Behind `reads: ` the second read fails, and behind `writes: ` the second
 /// write.
 pub(crate) fn streams_of(alloc: Global, line: &str) -> Result<MemShelf, Memory> {
-    let reads = line.strip_prefix("reads: ");
-    let writes = line.strip_prefix("writes: ");
-    let text = reads.or(writes).unwrap_or(line);
-    let scripts = one_file("-", script_of(alloc, text)?, reads.and(Some(1)))?;
-    let replies = one_file("-", Bytes::new(alloc), writes.and(Some(1)))?;
-    Ok(MemShelf::new(scripts, replies, List::new(alloc)))
+    if let Some(text) = line.strip_prefix("reads: ") {
+        return streams_over(alloc, text, Some(1), None);
+    }
+    match line.strip_prefix("writes: ") {
+        Some(text) => streams_over(alloc, text, None, Some(1)),
+        None => streams_over(alloc, line, None, None),
+    }
 }
 
 /// A device of the name `db` with so many zero bytes, whose call of this number fails.
@@ -82,11 +100,16 @@ pub(crate) fn device_of(
     Ok(MemShelf::new(device, List::new(alloc), List::new(alloc)))
 }
 
+/// Adds the script of this name that a text stands for.
+fn push_script(files: &mut List<MemFile>, name: &str, text: &str) -> Result<(), Memory> {
+    let script = script_of(files.allocator(), text.trim())?;
+    push_file(files, name, script, None)
+}
+
 /// Adds the scripts of these names that texts stand for.
 fn push_scripts(files: &mut List<MemFile>, names: &[&str], texts: &[&str]) -> Result<(), Memory> {
     for (name, text) in names.iter().zip(texts) {
-        let script = script_of(files.allocator(), text.trim())?;
-        push_file(files, name, script, None)?;
+        push_script(files, name, text)?;
     }
     Ok(())
 }

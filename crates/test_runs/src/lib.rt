@@ -10,7 +10,6 @@ mod runs;
 mod sessions;
 mod told;
 
-use cell_values::Memory;
 use commands::push_command;
 use files::streams_of;
 use runs::push_run;
@@ -18,7 +17,7 @@ use sessions::push_sessions;
 use std::sync::Wait;
 use std::thread::Threads;
 use std::time::Clock;
-use test_kit::{begin_answer, push_words};
+use test_kit::{Transcript, begin_answer, push_words};
 
 /// A table of cases.
 #[derive(Clone, Copy)]
@@ -41,45 +40,40 @@ fn table_of(title: &str) -> Option<Table> {
 /// Adds a title, or a line of a table and what comes of it.
 fn push_line<R: AllocGlobal + Threads + Wait + Clock + Sync>(
     rt: &R,
-    out: &mut String,
+    out: &mut Transcript,
     table: Table,
     line: &str,
-) -> Result<(), Memory> {
-    if !begin_answer(out, line)? {
-        return Ok(());
-    }
-    match table {
-        Table::Scripts => push_run(rt, out, "try", streams_of(rt.alloc(), line)?, false),
-        Table::Commands => push_command(rt, out, line),
-        Table::Sessions => push_sessions(rt, out, line),
+) {
+    if begin_answer(out, line) {
+        match table {
+            Table::Scripts => push_run(rt, out, "try", streams_of(rt.alloc(), line), false),
+            Table::Commands => push_command(rt, out, line),
+            Table::Sessions => push_sessions(rt, out, line),
+        }
     }
 }
 
 /// Adds each line, and what comes of it.
 fn push_lines<R: AllocGlobal + Threads + Wait + Clock + Sync>(
     rt: &R,
-    out: &mut String,
+    out: &mut Transcript,
     table: Table,
     text: &str,
-) -> Result<(), Memory> {
+) {
     for line in text.lines() {
-        push_line(rt, out, table, line)?;
+        push_line(rt, out, table, line);
     }
-    Ok(())
 }
 
 /// Adds the title of a table of runs, and its lines with what comes of them; nothing where the title is another one.
 pub fn push_run_table<R: AllocGlobal + Threads + Wait + Clock + Sync>(
     rt: &R,
-    out: &mut String,
+    out: &mut Transcript,
     title: &str,
     text: &str,
-) -> Result<(), Memory> {
-    match table_of(title) {
-        Some(table) => {
-            push_words(out, &["### ", title, "\n"])?;
-            push_lines(rt, out, table, text)
-        }
-        None => Ok(()),
+) {
+    if let Some(table) = table_of(title) {
+        push_words(out, &["### ", title, "\n"]);
+        push_lines(rt, out, table, text);
     }
 }

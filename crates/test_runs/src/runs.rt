@@ -10,7 +10,7 @@ use std::alloc::{AllocError, Global};
 use std::sync::Wait;
 use std::thread::Threads;
 use std::time::Clock;
-use test_kit::disk_bytes;
+use test_kit::{Transcript, disk_bytes};
 
 /// Adds the words of a command line.
 fn push_args(words: &mut Vec<Arg>, alloc: Global, line: &str) -> Result<(), AllocError> {
@@ -57,6 +57,16 @@ pub(crate) fn report_of<R: AllocGlobal + Threads + Wait + Clock + Sync>(
     }
 }
 
+/// What comes of a command line over files that were made.
+pub(crate) fn report_over<R: AllocGlobal + Threads + Wait + Clock + Sync>(
+    rt: &R,
+    line: &str,
+    shelf: Result<MemShelf, Memory>,
+) -> Result<Report<MemShelf>, Memory> {
+    let (report, _) = report_of(rt, line, shelf?, "")?;
+    Ok(report)
+}
+
 /// The bytes of the device that a run has left.
 pub(crate) fn file_left(alloc: Global, report: &Report<MemShelf>) -> Result<Bytes, Memory> {
     match &report.disk {
@@ -65,13 +75,13 @@ pub(crate) fn file_left(alloc: Global, report: &Report<MemShelf>) -> Result<Byte
     }
 }
 
-/// The bytes of the device that a command line leaves, run over these files.
+/// The bytes of the device that a command line leaves, run over files that were made.
 pub(crate) fn file_behind<R: AllocGlobal + Threads + Wait + Clock + Sync>(
     rt: &R,
     line: &str,
-    shelf: MemShelf,
+    shelf: Result<MemShelf, Memory>,
 ) -> Result<Bytes, Memory> {
-    let (report, _) = report_of(rt, line, shelf, "")?;
+    let report = report_over(rt, line, shelf)?;
     let left = file_left(rt.alloc(), &report);
     let_go_report(report);
     left
@@ -79,7 +89,7 @@ pub(crate) fn file_behind<R: AllocGlobal + Threads + Wait + Clock + Sync>(
 
 /// The file of a new database.
 fn new_file<R: AllocGlobal + Threads + Wait + Clock + Sync>(rt: &R) -> Result<Bytes, Memory> {
-    file_behind(rt, "init db", device_of(rt.alloc(), 0, None)?)
+    file_behind(rt, "init db", device_of(rt.alloc(), 0, None))
 }
 
 /// A new database, and the script of this name that a text stands for.
@@ -91,16 +101,19 @@ pub(crate) fn new_shelf<R: AllocGlobal + Threads + Wait + Clock + Sync>(
     shelf_of(new_file(rt)?, &[name], &[text])
 }
 
-/// Runs a command line over these files, and tells what comes of it: the device too, if that is wanted.
+/// Runs a command line over files that were made, and tells what comes of it: the device too, if that is wanted.
 pub(crate) fn push_run<R: AllocGlobal + Threads + Wait + Clock + Sync>(
     rt: &R,
-    out: &mut String,
+    out: &mut Transcript,
     line: &str,
-    shelf: MemShelf,
+    shelf: Result<MemShelf, Memory>,
     tells_device: bool,
-) -> Result<(), Memory> {
-    let (report, _) = report_of(rt, line, shelf, "")?;
-    let told = push_report(out, &report, tells_device);
-    let_go_report(report);
-    told
+) {
+    match report_over(rt, line, shelf) {
+        Ok(report) => {
+            push_report(out, &report, tells_device);
+            let_go_report(report);
+        }
+        Err(Memory) => out.note_short(),
+    }
 }

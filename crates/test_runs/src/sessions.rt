@@ -10,105 +10,164 @@
 //! the second. Where a session is held too long all stops are let go; it is told where the order wasn't kept.
 
 use crate::files::shelf_of;
-use crate::runs::{file_behind, file_left, new_shelf, report_of};
+use crate::runs::{file_behind, file_left, new_shelf, report_of, report_over};
 use crate::told::{end_words, push_bytes, push_notice, push_numbered};
 use afl_outside::MemShelf;
 use afl_run::{Report, let_go_report};
 use cell_values::{Bytes, Memory};
+use std::alloc::Global;
 use std::sync::Wait;
 use std::thread::Threads;
 use std::time::Clock;
-use test_kit::push_word;
+use test_kit::{Transcript, push_word};
 
 /// The file of a new database over which this script was run.
 fn file_before<R: AllocGlobal + Threads + Wait + Clock + Sync>(
     rt: &R,
     script: &str,
 ) -> Result<Bytes, Memory> {
-    file_behind(rt, "run db 0", new_shelf(rt, "0", script)?)
+    file_behind(rt, "run db 0", new_shelf(rt, "0", script))
 }
 
 /// Adds what a session has written, and how it ended.
-fn push_session(out: &mut String, session: u64, end: &str, written: &[u8]) -> Result<(), Memory> {
-    let head = push_numbered(out, "session ", session, ", ").and(push_word(out, end));
-    head.and(push_bytes(out, written))
+fn push_session(out: &mut Transcript, session: u64, end: &str, written: &[u8]) {
+    push_numbered(out, "session ", session, ", ");
+    push_word(out, end);
+    push_bytes(out, written);
 }
 
 /// Adds what each session of a run has written, and how it ended.
-fn push_told(out: &mut String, report: &Report<MemShelf>) -> Result<(), Memory> {
+fn push_told(out: &mut Transcript, report: &Report<MemShelf>) {
     let mut number = 0u64;
     for session in report.sessions.as_slice() {
-        push_session(out, number, end_words(session.end).1, session.sink.bytes())?;
+        push_session(out, number, end_words(session.end).1, session.sink.bytes());
         number = number.saturating_add(1);
     }
-    Ok(())
 }
 
 /// Adds what a run has written, how it ended, and where it didn't keep its order.
-fn push_report(out: &mut String, report: &Report<MemShelf>, is_kept: bool) -> Result<(), Memory> {
-    let entries = report.history.len() as u64;
-    let told = push_told(out, report)
-        .and(push_numbered(out, "status ", u64::from(report.status), ", "))
-        .and(push_numbered(out, "", entries, " entries, "))
-        .and(push_numbered(out, "", report.free_pages, " pages free\n"));
-    let order = if is_kept { "" } else { "not in this order\n" };
-    told.and(push_notice(out, report))
-        .and(push_word(out, order))
+fn push_report(out: &mut Transcript, report: &Report<MemShelf>, is_kept: bool) {
+    push_told(out, report);
+    push_numbered(out, "status ", u64::from(report.status), ", ");
+    push_numbered(out, "", report.history.len() as u64, " entries, ");
+    push_numbered(out, "", report.free_pages, " pages free\n");
+    push_notice(out, report);
+    if !is_kept {
+        push_word(out, "not in this order\n");
+    }
 }
 
-/// Runs a script over a file, and adds what it writes.
+/// What comes of a script over a file.
+fn report_after<R: AllocGlobal + Threads + Wait + Clock + Sync>(
+    rt: &R,
+    file: Result<Bytes, Memory>,
+    script: &str,
+) -> Result<Report<MemShelf>, Memory> {
+    report_over(rt, "run db 0", shelf_of(file?, &["0"], &[script]))
+}
+
+/// Adds what the first session of a run has written.
+fn push_first(out: &mut Transcript, report: &Report<MemShelf>) {
+    if let Some(session) = report.sessions.get(0) {
+        push_bytes(out, session.sink.bytes());
+    }
+}
+
+/// Runs a script over a file that was made, and adds what it writes.
 fn push_after<R: AllocGlobal + Threads + Wait + Clock + Sync>(
     rt: &R,
-    out: &mut String,
-    file: Bytes,
+    out: &mut Transcript,
+    file: Result<Bytes, Memory>,
     script: &str,
-) -> Result<(), Memory> {
-    let shelf = shelf_of(file, &["0"], &[script])?;
-    let (report, _) = report_of(rt, "run db 0", shelf, "")?;
-    let written = match report.sessions.get(0) {
-        Some(session) => push_bytes(out, session.sink.bytes()),
-        None => Ok(()),
-    };
-    let_go_report(report);
-    written
+) {
+    push_word(out, "after:\n");
+    match report_after(rt, file, script) {
+        Ok(report) => {
+            push_first(out, &report);
+            let_go_report(report);
+        }
+        Err(Memory) => out.note_short(),
+    }
 }
 
-/// Runs two scripts with these options, side by side in this order, and adds what comes of it. The file that they leave is the answer.
-fn push_beside<R: AllocGlobal + Threads + Wait + Clock + Sync>(
+/// The files of two scripts over the database that another script leaves.
+fn files_beside<R: AllocGlobal + Threads + Wait + Clock + Sync>(
     rt: &R,
-    out: &mut String,
+    before: &str,
+    scripts: &[&str],
+) -> Result<MemShelf, Memory> {
+    shelf_of(file_before(rt, before)?, &["0", "1"], scripts)
+}
+
+/// What comes of two scripts with these options, side by side in this order over files that were made, and whether it was kept.
+fn report_beside<R: AllocGlobal + Threads + Wait + Clock + Sync>(
+    rt: &R,
     options: &str,
     order: &str,
-    shelf: MemShelf,
-) -> Result<Bytes, Memory> {
-    let line = format!(in rt.alloc(); "run db {options} 0 1")?;
-    let (report, is_kept) = report_of(rt, line.as_str(), shelf, order)?;
-    let told = push_report(out, &report, is_kept);
-    let left = file_left(rt.alloc(), &report);
-    let_go_report(report);
-    told.and(left)
+    files: Result<MemShelf, Memory>,
+) -> Result<(Report<MemShelf>, bool), Memory> {
+    let shelf = files?;
+    match format!(in rt.alloc(); "run db {options} 0 1") {
+        Ok(line) => {
+            let made = report_of(rt, line.as_str(), shelf, order);
+            drop(line);
+            made
+        }
+        Err(_) => {
+            drop(shelf);
+            Err(Memory)
+        }
+    }
+}
+
+/// Adds what came of two scripts side by side, and what another writes over the file that they leave.
+fn push_beside<R: AllocGlobal + Threads + Wait + Clock + Sync>(
+    rt: &R,
+    out: &mut Transcript,
+    made: Result<(Report<MemShelf>, bool), Memory>,
+    after: &str,
+) {
+    match made {
+        Ok((report, is_kept)) => {
+            push_report(out, &report, is_kept);
+            let left = file_left(rt.alloc(), &report);
+            let_go_report(report);
+            push_after(rt, out, left, after);
+        }
+        Err(Memory) => out.note_short(),
+    }
 }
 
 /// Runs a case: its scripts side by side, in its order, and then the last one.
 fn push_case<R: AllocGlobal + Threads + Wait + Clock + Sync>(
     rt: &R,
-    out: &mut String,
+    out: &mut Transcript,
     parts: &[&str],
-) -> Result<(), Memory> {
+) {
     let [options, order, before, first, second, after] = parts else {
-        return push_word(out, "unknown\n");
+        push_word(out, "unknown\n");
+        return;
     };
-    let shelf = shelf_of(file_before(rt, before)?, &["0", "1"], &[*first, *second])?;
-    let left = push_beside(rt, out, options, order, shelf)?;
-    push_word(out, "after:\n").and(push_after(rt, out, left, after))
+    let files = files_beside(rt, before, &[*first, *second]);
+    let made = report_beside(rt, options, order, files);
+    push_beside(rt, out, made, after);
+}
+
+fn parts_of<'a>(alloc: Global, line: &'a str) -> Result<Vec<&'a str>, Memory> {
+    Ok(line.split('|').collect(alloc)?)
 }
 
 /// Adds what the runs of a case come to.
 pub(crate) fn push_sessions<R: AllocGlobal + Threads + Wait + Clock + Sync>(
     rt: &R,
-    out: &mut String,
+    out: &mut Transcript,
     line: &str,
-) -> Result<(), Memory> {
-    let parts: Vec<&str> = line.split('|').collect(rt.alloc())?;
-    push_case(rt, out, parts.as_slice())
+) {
+    match parts_of(rt.alloc(), line) {
+        Ok(parts) => {
+            push_case(rt, out, parts.as_slice());
+            drop(parts);
+        }
+        Err(Memory) => out.note_short(),
+    }
 }

@@ -13,15 +13,15 @@ use crate::plans::above_five;
 use crate::show::{push_broken, push_cause, push_chunks, push_faults};
 use afl_outside::OpenGate;
 use array_geom::Changed;
-use cell_values::{CompareOp, Datum, Memory};
+use cell_values::{Broken, CompareOp, Datum, Memory};
 use changed_chunks::{Asking, changed};
-use chunk_source::ChunkSource;
+use chunk_source::{ChunkSource, ExecFault};
 use expr_nulls::{ArithOp, TypedExpr};
 use logical_plan::{Leaf, Plan};
 use plan_changes::{Change, let_go_change};
 use std::alloc::Global;
 use std::thread::Threads;
-use test_kit::name_of;
+use test_kit::{Transcript, name_of, push_word};
 
 /// What is made of the array of a plan.
 #[derive(Clone, Copy)]
@@ -130,23 +130,39 @@ fn change_of(alloc: Global, case: Case, layout: Layout) -> Result<Change, Memory
     }
 }
 
-fn push_written(out: &mut String, made: &Changed) -> Result<(), Memory> {
-    out.push_str(if made.whole {
+fn push_written(out: &mut Transcript, made: &Changed) {
+    let title = if made.whole {
         "all chunks\n"
     } else {
         "these chunks\n"
-    })?;
-    push_chunks(out, made.chunks.as_slice())
+    };
+    push_word(out, title);
+    push_chunks(out, made.chunks.as_slice());
+}
+
+/// Adds the chunks that are written, the fault that comes in their place, or why there are none.
+fn push_outcome(out: &mut Transcript, outcome: Result<Result<Changed, Broken>, ExecFault>) {
+    match outcome {
+        Ok(Ok(made)) => {
+            push_written(out, &made);
+            drop(made);
+        }
+        Ok(Err(broken)) => {
+            push_broken(out, &broken);
+            drop(broken);
+        }
+        Err(cause) => push_cause(out, cause),
+    }
 }
 
 /// Adds the chunks that a change writes, its fault, or why there are none, and how often the source has failed.
 fn push_made<S: ChunkSource, R: Threads + Sync>(
     rt: &R,
-    out: &mut String,
+    out: &mut Transcript,
     source: &mut S,
     change: &Change,
     target: &Leaf,
-) -> Result<(), Memory>
+)
     requires undamaged { (S.state source.old).damaged ≡ None }
     requires can { CanChange (S.state source.old) change.now target.now }
 {
@@ -154,9 +170,9 @@ fn push_made<S: ChunkSource, R: Threads + Sync>(
         asked: 0,
         stored: 0,
     };
-    match changed(
+    let outcome = changed(
         rt,
-        *out.allocator(),
+        out.alloc(),
         change,
         target,
         source,
@@ -164,45 +180,50 @@ fn push_made<S: ChunkSource, R: Threads + Sync>(
         1,
         0,
         &OpenGate,
-    ) {
-        Ok(Ok(made)) => {
-            let told = push_written(out, &made);
-            drop(made);
-            told?;
-        }
-        Ok(Err(broken)) => {
-            let told = push_broken(out, &broken);
-            drop(broken);
-            told?;
-        }
-        Err(cause) => push_cause(out, cause)?,
-    }
-    push_faults(out, source)
+    );
+    push_outcome(out, outcome);
+    push_faults(out, source);
 }
 
-/// Makes a change over a source that has the array.
+/// Makes a change of a target over a source that has the array.
 #[tactic(auto, using(crate::proofs::Made::can_change))]
-pub(crate) fn push_case<S: ChunkSource, R: Threads + Sync>(
+fn push_change<S: ChunkSource, R: Threads + Sync>(
     rt: &R,
-    out: &mut String,
+    out: &mut Transcript,
     source: &mut S,
     case: Case,
     layout: Layout,
-) -> Result<(), Memory>
+    target: &Leaf,
+)
+    requires undamaged { (S.state source.old).damaged ≡ None }
+    requires reads { Reads (S.state source.old) (leaf layout) }
+    requires target { target.now ≡ target_of case layout }
+{
+    match change_of(out.alloc(), case, layout) {
+        Ok(change) => {
+            push_made(rt, out, source, &change, target);
+            let_go_change(change);
+        }
+        Err(Memory) => out.note_short(),
+    }
+}
+
+/// Makes a change over a source that has the array.
+pub(crate) fn push_case<S: ChunkSource, R: Threads + Sync>(
+    rt: &R,
+    out: &mut Transcript,
+    source: &mut S,
+    case: Case,
+    layout: Layout,
+)
     requires undamaged { (S.state source.old).damaged ≡ None }
     requires reads { Reads (S.state source.old) (leaf layout) }
 {
-    let target = target_of(*out.allocator(), case, layout)?;
-    match change_of(*out.allocator(), case, layout) {
-        Ok(change) => {
-            let told = push_made(rt, out, source, &change, &target);
-            let_go_change(change);
+    match target_of(out.alloc(), case, layout) {
+        Ok(target) => {
+            push_change(rt, out, source, case, layout, &target);
             drop(target);
-            told
         }
-        Err(Memory) => {
-            drop(target);
-            Err(Memory)
-        }
+        Err(Memory) => out.note_short(),
     }
 }

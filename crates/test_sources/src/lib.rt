@@ -8,6 +8,10 @@
 //! workers, and holds the first piece until another has come.
 #![tactic(auto)]
 
+ghost use Rattle.std.specs.Prelude.{◌≡◌, None};
+ghost use Rattle.chunk_source.specs.Source.{Reads};
+ghost use Rattle.test_sources.specs.Example.{leaf};
+
 mod changes;
 mod example;
 mod layout;
@@ -18,51 +22,62 @@ mod workers;
 
 use cell_values::Memory;
 use changes::{case_of, push_case};
+use chunk_source::ChunkSource;
 use example::{failing_source, sure_source};
 use layout::{Layout, layout_of};
 use leaves::push_stored;
 use plans::push_filter;
 use show::push_asked;
 use std::thread::Threads;
-use test_kit::{begin_answer, push_words};
+use test_kit::{Transcript, begin_answer, push_words};
 use workers::push_workers;
+
+/// Reads or changes the array of a source that has it.
+fn push_asking<S: ChunkSource, R: Threads + Sync>(
+    rt: &R,
+    out: &mut Transcript,
+    source: &mut S,
+    word: &str,
+    layout: Layout,
+)
+    requires undamaged { (S.state source.old).damaged ≡ None }
+    requires reads { Reads (S.state source.old) (leaf layout) }
+{
+    match word {
+        "leaf" => push_stored(out, source, layout),
+        "filter" => push_filter(rt, out, source, layout),
+        case => push_case(rt, out, source, case_of(case), layout),
+    }
+}
 
 /// Reads or changes the array from a source whose calls of these numbers fail.
 fn push_failing<R: Threads + Sync>(
     rt: &R,
-    out: &mut String,
+    out: &mut Transcript,
     word: &str,
     layout: Layout,
     fails: &str,
-) -> Result<(), Memory> {
-    let mut source = failing_source(*out.allocator(), layout, fails)?;
-    let told = match word {
-        "leaf" => push_stored(out, &mut source, layout),
-        "filter" => push_filter(rt, out, &mut source, layout),
-        case => push_case(rt, out, &mut source, case_of(case), layout),
-    };
-    let asked = push_asked(out, source.asked());
-    drop(source);
-    told?;
-    asked
+) {
+    match failing_source(out.alloc(), layout, fails) {
+        Ok(mut source) => {
+            push_asking(rt, out, &mut source, word, layout);
+            push_asked(out, source.asked());
+            drop(source);
+        }
+        Err(Memory) => out.note_short(),
+    }
 }
 
-/// Reads the array from a source that never fails.
-fn push_sure<R: Threads + Sync>(
-    rt: &R,
-    out: &mut String,
-    word: &str,
-    layout: Layout,
-) -> Result<(), Memory> {
-    let mut source = sure_source(*out.allocator(), layout)?;
-    let told = match word {
-        "leaf" => push_stored(out, &mut source, layout),
-        _ => push_filter(rt, out, &mut source, layout),
-    };
-    let asked = push_asked(out, source.asked());
-    drop(source);
-    told?;
-    asked
+/// Reads or changes the array from a source that never fails.
+fn push_sure<R: Threads + Sync>(rt: &R, out: &mut Transcript, word: &str, layout: Layout) {
+    match sure_source(out.alloc(), layout) {
+        Ok(mut source) => {
+            push_asking(rt, out, &mut source, word, layout);
+            push_asked(out, source.asked());
+            drop(source);
+        }
+        Err(Memory) => out.note_short(),
+    }
 }
 
 /// The first word of a text, and what stands behind it.
@@ -71,7 +86,7 @@ fn front_of(text: &str) -> (&str, &str) {
 }
 
 /// Adds the answer to a line.
-fn push_answer<R: Threads + Sync>(rt: &R, out: &mut String, line: &str) -> Result<(), Memory> {
+fn push_answer<R: Threads + Sync>(rt: &R, out: &mut Transcript, line: &str) {
     let (word, behind) = front_of(line);
     match word {
         "workers" => push_workers(rt, out, behind),
@@ -88,25 +103,18 @@ fn push_answer<R: Threads + Sync>(rt: &R, out: &mut String, line: &str) -> Resul
 }
 
 /// Adds titles, and lines with their answers.
-fn push_lines<R: Threads + Sync>(rt: &R, out: &mut String, text: &str) -> Result<(), Memory> {
+fn push_lines<R: Threads + Sync>(rt: &R, out: &mut Transcript, text: &str) {
     for line in text.lines() {
-        if begin_answer(out, line)? {
-            push_answer(rt, out, line)?;
+        if begin_answer(out, line) {
+            push_answer(rt, out, line);
         }
     }
-    Ok(())
 }
 
 /// Adds the title of a table of sources, and its lines with their answers; nothing where the title is another one.
-pub fn push_source_table<R: Threads + Sync>(
-    rt: &R,
-    out: &mut String,
-    title: &str,
-    text: &str,
-) -> Result<(), Memory> {
-    if title != "sources" {
-        return Ok(());
+pub fn push_source_table<R: Threads + Sync>(rt: &R, out: &mut Transcript, title: &str, text: &str) {
+    if title == "sources" {
+        push_words(out, &["### ", title, "\n"]);
+        push_lines(rt, out, text);
     }
-    push_words(out, &["### ", title, "\n"])?;
-    push_lines(rt, out, text)
 }

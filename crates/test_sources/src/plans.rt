@@ -15,6 +15,7 @@ use expr_nulls::TypedExpr;
 use logical_plan::Plan;
 use std::alloc::Global;
 use std::thread::Threads;
+use test_kit::Transcript;
 
 /// `filter(a, v>5)`
 pub(crate) fn above_five(alloc: Global, layout: Layout) -> Result<Plan, Memory>
@@ -29,39 +30,40 @@ pub(crate) fn above_five(alloc: Global, layout: Layout) -> Result<Plan, Memory>
 /// Executes a plan, and adds its chunks or why there are none, and how often the source has failed.
 fn push_plan<S: ChunkSource, R: Threads + Sync>(
     rt: &R,
-    out: &mut String,
+    out: &mut Transcript,
     source: &mut S,
     plan: &Plan,
-) -> Result<(), Memory>
+)
     requires undamaged { (S.state source.old).damaged ≡ None }
     requires can { CanCompute (S.state source.old) plan.now }
 {
-    match execute(rt, *out.allocator(), plan, source, 1, 0, &OpenGate) {
+    match execute(rt, out.alloc(), plan, source, 1, 0, &OpenGate) {
         Ok(array) => {
-            let chunks = push_chunks(out, array.chunks.as_slice());
-            let cells = push_cells(out, &array);
+            push_chunks(out, array.chunks.as_slice());
+            push_cells(out, &array);
             drop(array);
-            chunks?;
-            cells?;
         }
-        Err(cause) => push_cause(out, cause)?,
+        Err(cause) => push_cause(out, cause),
     }
-    push_faults(out, source)
+    push_faults(out, source);
 }
 
 /// Executes the filter over a source that has the array.
 #[tactic(auto, using(crate::proofs::Executed::can_compute))]
 pub(crate) fn push_filter<S: ChunkSource, R: Threads + Sync>(
     rt: &R,
-    out: &mut String,
+    out: &mut Transcript,
     source: &mut S,
     layout: Layout,
-) -> Result<(), Memory>
+)
     requires undamaged { (S.state source.old).damaged ≡ None }
     requires reads { Reads (S.state source.old) (leaf layout) }
 {
-    let plan = above_five(*out.allocator(), layout)?;
-    let told = push_plan(rt, out, source, &plan);
-    drop(plan);
-    told
+    match above_five(out.alloc(), layout) {
+        Ok(plan) => {
+            push_plan(rt, out, source, &plan);
+            drop(plan);
+        }
+        Err(Memory) => out.note_short(),
+    }
 }

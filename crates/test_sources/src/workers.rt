@@ -8,7 +8,7 @@ use std::alloc::Global;
 use std::sync::atomic::{AtomicU64, Ordering};
 use std::thread;
 use std::thread::Threads;
-use test_kit::push_word;
+use test_kit::{Transcript, push_word};
 
 /// Twice a number.
 #[derive(Drop)]
@@ -54,16 +54,21 @@ impl Gate for HeldFirst {
     }
 }
 
-/// Whether the first of eight pieces was let go by another.
-fn is_let_go<R: Threads + Sync>(rt: &R, alloc: Global, workers: u32) -> Result<bool, Memory> {
-    let gate = HeldFirst {
-        came: AtomicU64::new(0),
-        let_go: AtomicU64::new(0),
-    };
+fn eight_pieces(alloc: Global) -> Result<List<u32>, Memory> {
     let mut pieces = List::new(alloc);
     for k in 0..8u32 {
         pieces.push(k)?;
     }
+    Ok(pieces)
+}
+
+/// Whether the first of eight pieces was let go by another.
+fn is_let_go<R: Threads + Sync>(rt: &R, alloc: Global, workers: u32) -> Result<bool, Memory> {
+    let pieces = eight_pieces(alloc)?;
+    let gate = HeldFirst {
+        came: AtomicU64::new(0),
+        let_go: AtomicU64::new(0),
+    };
     let mut crew = Crew {
         rt,
         workers,
@@ -76,15 +81,11 @@ fn is_let_go<R: Threads + Sync>(rt: &R, alloc: Global, workers: u32) -> Result<b
 }
 
 /// Adds whether so many workers were at work at once.
-pub(crate) fn push_workers<R: Threads + Sync>(
-    rt: &R,
-    out: &mut String,
-    word: &str,
-) -> Result<(), Memory> {
+pub(crate) fn push_workers<R: Threads + Sync>(rt: &R, out: &mut Transcript, word: &str) {
     let workers = word.parse::<u32>().unwrap_or(0);
-    if is_let_go(rt, *out.allocator(), workers)? {
-        push_word(out, "the first piece waited until another had come\n")
-    } else {
-        push_word(out, "the first piece waited in vain\n")
+    match is_let_go(rt, out.alloc(), workers) {
+        Ok(true) => push_word(out, "the first piece waited until another had come\n"),
+        Ok(false) => push_word(out, "the first piece waited in vain\n"),
+        Err(Memory) => out.note_short(),
     }
 }

@@ -14,6 +14,7 @@ use snapshot_manager::{Seat, Shared};
 use std::alloc::Global;
 use std::sync::Wait;
 use std::thread::Threads;
+use test_kit::Transcript;
 use test_quiet::{Answer, SilentDisk, Step, step_of};
 
 /// A store that three sessions share.
@@ -33,16 +34,16 @@ fn answer_step<R: Threads + Wait + Sync>(
     rt: &R,
     alloc: Global,
     run: &mut Run,
-    session: &str,
+    session: u32,
     step: Step<'_>,
 ) -> Answer
     requires { IsRun run.old }
     ensures { IsRun run.new }
 {
     match session {
-        "0" => run.first.answer(rt, alloc, &run.shared, step),
-        "1" => run.second.answer(rt, alloc, &run.shared, step),
-        "2" => run.third.answer(rt, alloc, &run.shared, step),
+        0 => run.first.answer(rt, alloc, &run.shared, step),
+        1 => run.second.answer(rt, alloc, &run.shared, step),
+        2 => run.third.answer(rt, alloc, &run.shared, step),
         _ => Answer::Unknown,
     }
 }
@@ -127,14 +128,8 @@ fn finished(run: Run) -> Store<SilentDisk>
 }
 
 /// Takes the store back from all, and adds what its history tells.
-pub fn push_finished(out: &mut String, run: Run) -> Result<(), Memory>
+pub fn push_finished(out: &mut Transcript, run: Run)
     requires { IsRun run }
 {
-    match tallied(out, finished(run), 3) {
-        Ok(disk) => {
-            drop(disk);
-            Ok(())
-        }
-        Err(Memory) => Err(Memory),
-    }
+    drop(tallied(out, finished(run), 3));
 }

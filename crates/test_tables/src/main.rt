@@ -14,8 +14,9 @@ use std::thread::Threads;
 use std::time::Clock;
 use test_catalogs::push_catalog_table;
 use test_commits::push_commit_table;
+use test_kit::Transcript;
 use test_language::push_language_table;
-use test_pages::tell_page_table;
+use test_pages::push_page_table;
 use test_runs::push_run_table;
 use test_sources::push_source_table;
 use test_values::push_value_table;
@@ -23,17 +24,18 @@ use test_values::push_value_table;
 /// Adds the title of a table, and what comes of its lines.
 fn push_table<R: AllocGlobal + Threads + Wait + Clock + Sync>(
     rt: &R,
-    out: &mut String,
+    out: &mut Transcript,
     title: &str,
     lines: &[u8],
-) -> Result<(), Memory> {
+) {
     let text = from_utf8(lines).unwrap_or("");
-    push_value_table(out, title, text)?;
-    push_language_table(out, title, lines)?;
-    push_catalog_table(out, title, text)?;
-    push_source_table(rt, out, title, text)?;
-    push_run_table(rt, out, title, text)?;
-    push_commit_table(rt, out, title, text)
+    push_value_table(out, title, text);
+    push_language_table(out, title, lines);
+    push_page_table(out, title);
+    push_catalog_table(out, title, text);
+    push_source_table(rt, out, title, text);
+    push_run_table(rt, out, title, text);
+    push_commit_table(rt, out, title, text);
 }
 
 /// Prints the title of a table, and what comes of its lines.
@@ -43,14 +45,16 @@ fn tell_table<R: AllocGlobal + Print + Threads + Wait + Clock + Sync>(
     lines: &[u8],
 ) -> Result<()> {
     let title = from_utf8(title).unwrap_or("");
-    let mut out = String::new(rt.alloc());
-    let printed = match push_table(rt, &mut out, title, lines) {
-        Ok(()) => print!(rt; "{out}"),
-        Err(Memory) => println!(rt; "no memory"),
-    };
-    drop(out);
-    printed?;
-    tell_page_table(rt, title)
+    let mut out = Transcript::new(rt.alloc());
+    push_table(rt, &mut out, title, lines);
+    match out.finish() {
+        Ok(text) => {
+            let printed = print!(rt; "{text}");
+            drop(text);
+            Ok(printed?)
+        }
+        Err(Memory) => Ok(println!(rt; "no memory")?),
+    }
 }
 
 /// Prints what comes of each table.

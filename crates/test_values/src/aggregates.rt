@@ -3,12 +3,13 @@
 //! `aggregate sum 1:5 | 0:null` takes two sets of places into two states, merges them and tells the aggregate.
 ghost use Rattle.std.specs.Prelude.{◌+◌, ◌≤◌, IfOk};
 
+use crate::show::push_result;
 use crate::words::front_of;
 use agg_states::AggState;
 use cell_values::{Datum, Memory, coord_of};
 use logical_plan::AggFunction;
 use std::alloc::Global;
-use test_kit::{cell_of, place_in, push_value};
+use test_kit::{Transcript, cell_of, place_in};
 
 /// How many places of a part are taken at most.
 const LIMIT: usize = 100;
@@ -67,9 +68,9 @@ fn merged(
 }
 
 /// Adds the aggregate of two parts.
-pub(crate) fn push_aggregate(out: &mut String, operands: &str) -> Result<(), Memory> {
+pub(crate) fn push_aggregate(out: &mut Transcript, operands: &str) {
     let (function, places) = front_of(operands);
     let (first, second) = places.split_once('|').unwrap_or((places, ""));
-    let value = merged(*out.allocator(), function_of(function), first, second)?;
-    push_value(out, value)
+    let value = merged(out.alloc(), function_of(function), first, second);
+    push_result(out, value);
 }

@@ -1,11 +1,12 @@
 //! Calls of the value table.
 
+use crate::show::push_result;
 use crate::words::front_of;
 use cell_values::{
     CompareOp, Datum, Memory, add, and3, compare, div, mul, neg, not3, or3, rem, sub,
 };
 use std::alloc::Global;
-use test_kit::{datum_of, push_value};
+use test_kit::{Transcript, datum_of, push_value};
 
 fn comparison_of(op: &str) -> CompareOp {
     match op {
@@ -39,28 +40,34 @@ fn of_two(alloc: Global, op: &str, a: &Datum, b: &Datum) -> Result<Datum, Memory
 }
 
 /// Adds what a call with one operand gives.
-pub(crate) fn push_one(out: &mut String, op: &str, a: &str) -> Result<(), Memory> {
-    let a = datum_of(*out.allocator(), a)?;
-    let value = if op == "-" { neg(&a) } else { not3(&a) };
-    drop(a);
-    push_value(out, value)
+pub(crate) fn push_one(out: &mut Transcript, op: &str, a: &str) {
+    match datum_of(out.alloc(), a) {
+        Ok(a) => {
+            let value = if op == "-" { neg(&a) } else { not3(&a) };
+            drop(a);
+            push_value(out, value);
+        }
+        Err(Memory) => out.note_short(),
+    }
+}
+
+/// What a call gives whose second operand is a word.
+fn of_word(alloc: Global, op: &str, a: &Datum, b: &str) -> Result<Datum, Memory> {
+    let b = datum_of(alloc, b)?;
+    let value = of_two(alloc, op, a, &b);
+    drop(b);
+    value
 }
 
 /// Adds what a call with two operands gives, the first of which stands before it.
-pub(crate) fn push_two(out: &mut String, a: &str, behind: &str) -> Result<(), Memory> {
+pub(crate) fn push_two(out: &mut Transcript, a: &str, behind: &str) {
     let (op, b) = front_of(behind);
-    let alloc = *out.allocator();
-    let a = datum_of(alloc, a)?;
-    match datum_of(alloc, b) {
-        Ok(b) => {
-            let value = of_two(alloc, op, &a, &b);
+    match datum_of(out.alloc(), a) {
+        Ok(a) => {
+            let value = of_word(out.alloc(), op, &a, b);
             drop(a);
-            drop(b);
-            push_value(out, value?)
+            push_result(out, value);
         }
-        Err(Memory) => {
-            drop(a);
-            Err(Memory)
-        }
+        Err(Memory) => out.note_short(),
     }
 }

@@ -5,7 +5,9 @@ use crate::words::front_of;
 use array_rows::is_in_box;
 use cell_values::{Bounds, Broken, Datum, FaultKind, Memory, Row, row_major, same_place};
 use std::cmp::Ordering;
-use test_kit::{cell_of, coord_in, fault_of, push_cell, push_coord, push_datum, push_word};
+use test_kit::{
+    Transcript, cell_of, coord_in, fault_of, push_cell, push_coord, push_datum, push_word,
+};
 
 fn bounds_of(lo: &str, hi: &str) -> Bounds {
     Bounds {
@@ -15,39 +17,55 @@ fn bounds_of(lo: &str, hi: &str) -> Bounds {
 }
 
 /// Adds a copy of the box of two corners.
-pub(crate) fn push_bounds(out: &mut String, corners: &str) -> Result<(), Memory> {
+pub(crate) fn push_bounds(out: &mut Transcript, corners: &str) {
     let (lo, hi) = front_of(corners);
-    let copy = bounds_of(lo, hi).copy()?;
-    push_corners(out, &copy)
+    match bounds_of(lo, hi).copy() {
+        Ok(copy) => push_corners(out, &copy),
+        Err(Memory) => out.note_short(),
+    }
 }
 
 /// Adds a copy of what breaks an array.
-pub(crate) fn push_broken(out: &mut String, operands: &str) -> Result<(), Memory> {
+pub(crate) fn push_broken(out: &mut Transcript, operands: &str) {
     let (at, kind) = front_of(operands);
     let broken = Broken {
         at: coord_in(at),
         kind: fault_of(kind).unwrap_or(FaultKind::Overflow),
     };
-    let copy = broken.copy()?;
-    let at = push_coord(out, &copy.at);
-    let space = push_word(out, " ");
-    at.and(space).and(push_datum(out, &Datum::Bad(copy.kind)))
+    match broken.copy() {
+        Ok(copy) => {
+            push_coord(out, &copy.at);
+            push_word(out, " ");
+            push_datum(out, &Datum::Bad(copy.kind));
+        }
+        Err(Memory) => out.note_short(),
+    }
+}
+
+fn push_copied(out: &mut Transcript, row: &Row) {
+    match row.copy() {
+        Ok(copy) => {
+            push_coord(out, &copy.at);
+            push_cell(out, &copy.cell);
+            drop(copy);
+        }
+        Err(Memory) => out.note_short(),
+    }
 }
 
 /// Adds a copy of a row of two values.
-pub(crate) fn push_row(out: &mut String, operands: &str) -> Result<(), Memory> {
+pub(crate) fn push_row(out: &mut Transcript, operands: &str) {
     let (at, values) = front_of(operands);
     let (first, second) = front_of(values);
-    let cell = cell_of(*out.allocator(), &[first], second)?;
-    let at = coord_in(at);
-    let row = Row { at, cell };
-    let copy = row.copy();
-    drop(row);
-    let copy = copy?;
-    let at = push_coord(out, &copy.at);
-    let cell = push_cell(out, &copy.cell);
-    drop(copy);
-    at.and(cell)
+    match cell_of(out.alloc(), &[first], second) {
+        Ok(cell) => {
+            let at = coord_in(at);
+            let row = Row { at, cell };
+            push_copied(out, &row);
+            drop(row);
+        }
+        Err(Memory) => out.note_short(),
+    }
 }
 
 /// How two coordinates stand to each other in an array.

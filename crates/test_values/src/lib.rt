@@ -13,9 +13,8 @@ mod show;
 mod values;
 mod words;
 
-use cell_values::Memory;
 use lists::Lists;
-use test_kit::{begin_answer, push_words};
+use test_kit::{Transcript, begin_answer, push_words};
 use values::push_call_line;
 
 /// What the lines of a table are.
@@ -37,25 +36,20 @@ fn table_of(title: &str) -> Option<Table> {
 }
 
 /// Adds each line, and its answer.
-fn push_lines(out: &mut String, lists: &mut Lists, table: Table, text: &str) -> Result<(), Memory> {
+fn push_lines(out: &mut Transcript, lists: &mut Lists, table: Table, text: &str) {
     for line in text.lines() {
-        if begin_answer(out, line)? {
-            push_call_line(out, lists, table, line)?;
+        if begin_answer(out, line) {
+            push_call_line(out, lists, table, line);
         }
     }
-    Ok(())
 }
 
 /// Adds the title of a table of calls, and its lines with their answers; nothing where the title is another one.
-pub fn push_value_table(out: &mut String, title: &str, text: &str) -> Result<(), Memory> {
-    match table_of(title) {
-        Some(table) => {
-            push_words(out, &["### ", title, "\n"])?;
-            let mut lists = Lists::new(*out.allocator());
-            let told = push_lines(out, &mut lists, table, text);
-            drop(lists);
-            told
-        }
-        None => Ok(()),
+pub fn push_value_table(out: &mut Transcript, title: &str, text: &str) {
+    if let Some(table) = table_of(title) {
+        push_words(out, &["### ", title, "\n"]);
+        let mut lists = Lists::new(out.alloc());
+        push_lines(out, &mut lists, table, text);
+        drop(lists);
     }
 }

@@ -4,7 +4,7 @@ use crate::words::front_of;
 use cell_values::{Bytes, Memory};
 use std::alloc::Global;
 use std::cmp::Ordering;
-use test_kit::{push_count, push_quoted, push_text, push_word};
+use test_kit::{Transcript, push_count, push_quoted, push_text, push_word};
 
 /// A list, and what was last copied or taken from it.
 #[derive(Drop)]
@@ -67,49 +67,54 @@ impl Lists {
     }
 
     /// Does a call, and adds the item that it gives, if it gives one.
-    fn call(&mut self, out: &mut String, call: &str) -> Result<(), Memory> {
+    fn call(&mut self, out: &mut Transcript, call: &str) {
         let (word, operands) = front_of(call);
         let (operand, byte) = front_of(operands);
         match word {
             "get" => push_item(out, self.list.get(place_in(operand)).copied()),
             "pop" => push_item(out, self.list.pop()),
-            "extend" => self.list.extend(operand.as_bytes()),
-            "push" => self.list.push(byte_of(operand)),
-            word => self.call_at(word, place_in(operand), byte_of(byte)),
+            "extend" => out.note(self.list.extend(operand.as_bytes()).is_ok()),
+            "push" => out.note(self.list.push(byte_of(operand)).is_ok()),
+            word => {
+                let done = self.call_at(word, place_in(operand), byte_of(byte));
+                out.note(done.is_ok());
+            }
         }
     }
 
     /// Does a call, and adds what it gives, the list that it leaves with its length and its largest byte, and how that
     /// stands to what was taken.
-    pub(crate) fn push_call(&mut self, out: &mut String, call: &str) -> Result<(), Memory> {
-        self.call(out, call)?;
-        let shown = push_shown(out, self.list.as_slice());
+    pub(crate) fn push_call(&mut self, out: &mut Transcript, call: &str) {
+        self.call(out, call);
+        push_shown(out, self.list.as_slice());
         let standing = match self.list.cmp(&self.taken) {
             Ordering::Less => ", less than ",
             Ordering::Equal => ", equal to ",
             Ordering::Greater => ", more than ",
         };
-        let stands = push_word(out, standing);
-        let taken = push_quoted(out, self.taken.as_slice());
-        shown.and(stands).and(taken)
+        push_word(out, standing);
+        push_quoted(out, self.taken.as_slice());
     }
 }
 
 /// Adds a list with its length and its largest byte.
-fn push_shown(out: &mut String, list: &[u8]) -> Result<(), Memory> {
-    let shown = push_quoted(out, list).and(push_word(out, " of "));
-    let counted = push_count(out, list.len() as u64);
-    let largest = match list.iter().copied().max() {
-        Some(most) => push_word(out, ", largest ").and(push_text(out, &[most])),
-        None => Ok(()),
-    };
-    shown.and(counted).and(largest)
+fn push_shown(out: &mut Transcript, list: &[u8]) {
+    push_quoted(out, list);
+    push_word(out, " of ");
+    push_count(out, list.len() as u64);
+    if let Some(most) = list.iter().copied().max() {
+        push_word(out, ", largest ");
+        push_text(out, &[most]);
+    }
 }
 
 /// Adds an item of a list.
-fn push_item(out: &mut String, item: Option<u8>) -> Result<(), Memory> {
+fn push_item(out: &mut Transcript, item: Option<u8>) {
     match item {
-        Some(byte) => push_text(out, &[byte]).and(push_word(out, " from ")),
+        Some(byte) => {
+            push_text(out, &[byte]);
+            push_word(out, " from ");
+        }
         None => push_word(out, "nothing from "),
     }
 }

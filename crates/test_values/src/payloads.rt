@@ -6,10 +6,12 @@ ghost use Rattle.chunk_rle.specs.Inner.Example.{example};
 use crate::show::push_chunk;
 use array_geom::Chunk;
 use array_rows::Cells;
-use cell_values::{Attribute, ChunkAt, Dimension, Kind, List, Memory, Schema};
+use cell_values::{Attribute, Bytes, ChunkAt, Dimension, Kind, List, Memory, Schema};
 use chunk_rle::{BadPayload, decode, encode};
 use std::alloc::Global;
-use test_kit::{bytes_in, cell_of, name_of, one_more, place_in, push_count, push_hex, push_word};
+use test_kit::{
+    Transcript, bytes_in, cell_of, name_of, one_more, place_in, push_count, push_hex, push_word,
+};
 
 /// A number in each cell.
 pub(crate) fn attributes(alloc: Global) -> Result<List<Attribute>, Memory>
@@ -84,23 +86,33 @@ pub(crate) fn chunk_in(alloc: Global, at: ChunkAt, words: &str) -> Result<Chunk,
     }
 }
 
-fn push_payload(out: &mut String, chunk: &Chunk) -> Result<(), Memory> {
-    let alloc = *out.allocator();
+fn payload_of(alloc: Global, chunk: &Chunk) -> Result<Bytes, Memory> {
     let schema = schema(alloc)?;
     let payload = encode(alloc, &schema, chunk);
     drop(schema);
-    let payload = payload?;
-    let told = push_hex(out, payload.as_slice());
-    drop(payload);
-    told.and(push_word(out, "\n"))
+    payload
+}
+
+fn push_payload(out: &mut Transcript, chunk: &Chunk) {
+    match payload_of(out.alloc(), chunk) {
+        Ok(payload) => {
+            push_hex(out, payload.as_slice());
+            drop(payload);
+            push_word(out, "\n");
+        }
+        Err(Memory) => out.note_short(),
+    }
 }
 
 /// Adds the payload of a chunk with these cells.
-pub(crate) fn push_spelled(out: &mut String, words: &str) -> Result<(), Memory> {
-    let chunk = chunk_in(*out.allocator(), first(), words)?;
-    let told = push_payload(out, &chunk);
-    drop(chunk);
-    told
+pub(crate) fn push_spelled(out: &mut Transcript, words: &str) {
+    match chunk_in(out.alloc(), first(), words) {
+        Ok(chunk) => {
+            push_payload(out, &chunk);
+            drop(chunk);
+        }
+        Err(Memory) => out.note_short(),
+    }
 }
 
 fn decoded(alloc: Global, bytes: &[u8]) -> Result<Chunk, BadPayload> {
@@ -113,22 +125,29 @@ fn decoded(alloc: Global, bytes: &[u8]) -> Result<Chunk, BadPayload> {
     }
 }
 
-/// Adds the chunk of a payload, or the place of its first wrong item.
-pub(crate) fn push_read(out: &mut String, digits: &str) -> Result<(), Memory> {
-    let alloc = *out.allocator();
-    let bytes = bytes_in(alloc, digits)?;
-    let chunk = decoded(alloc, bytes.as_slice());
-    drop(bytes);
-    match chunk {
+fn push_decoded(out: &mut Transcript, decoded: Result<Chunk, BadPayload>) {
+    match decoded {
         Ok(chunk) => {
-            let told = push_chunk(out, &chunk);
+            push_chunk(out, &chunk);
             drop(chunk);
-            told
         }
         Err(BadPayload::At { at }) => {
-            let placed = push_word(out, "wrong at ").and(push_count(out, at));
-            placed.and(push_word(out, "\n"))
+            push_word(out, "wrong at ");
+            push_count(out, at);
+            push_word(out, "\n");
         }
         Err(BadPayload::Memory) => push_word(out, "no memory\n"),
+    }
+}
+
+/// Adds the chunk of a payload, or the place of its first wrong item.
+pub(crate) fn push_read(out: &mut Transcript, digits: &str) {
+    match bytes_in(out.alloc(), digits) {
+        Ok(bytes) => {
+            let chunk = decoded(out.alloc(), bytes.as_slice());
+            drop(bytes);
+            push_decoded(out, chunk);
+        }
+        Err(Memory) => out.note_short(),
     }
 }

@@ -15,7 +15,8 @@ use array_geom::{
 use cell_values::{Bounds, ChunkAt, Coord, Dimension, List, Memory, Name, Schema, coord_of};
 use std::alloc::Global;
 use test_kit::{
-    name_of, one_more, push_coord, push_count, push_number, push_word, push_words, truth_word,
+    Transcript, name_of, one_more, push_coord, push_count, push_number, push_word, push_words,
+    truth_word,
 };
 
 fn dimension(name: Name, lo: i64, hi: i64, chunk: u64) -> Dimension
@@ -64,15 +65,17 @@ fn at(x: i64, y: i64) -> Coord
     coord_of(&[x, y])
 }
 
-fn push_found(out: &mut String, found: &ChunkAt, number: u64, back: &Coord) -> Result<(), Memory> {
-    let found = push_number(out, found);
-    let place = push_word(out, " place ").and(push_count(out, number));
-    let back = push_word(out, " ").and(push_coord(out, back));
-    found.and(place).and(back).and(push_word(out, "\n"))
+fn push_found(out: &mut Transcript, found: &ChunkAt, number: u64, back: &Coord) {
+    push_number(out, found);
+    push_word(out, " place ");
+    push_count(out, number);
+    push_word(out, " ");
+    push_coord(out, back);
+    push_word(out, "\n");
 }
 
 /// Adds the chunk of a coordinate, its place in the frame, and the coordinate of that place.
-fn push_place_in(out: &mut String, schema: &Schema) -> Result<(), Memory>
+fn push_place_in(out: &mut Transcript, schema: &Schema)
     requires { schema.now ≡ example }
 {
     let cell = at(1, 4);
@@ -81,29 +84,30 @@ fn push_place_in(out: &mut String, schema: &Schema) -> Result<(), Memory>
     let found = chunk_of(schema, &cell);
     let number = position(schema, &margins, &chunk, &cell);
     let back = place(schema, &margins, &chunk, number);
-    push_found(out, &found, number, &back)
+    push_found(out, &found, number, &back);
 }
 
 /// Adds the core of the last chunk, which the bounds cut, and its frame.
-fn push_frame_in(out: &mut String, schema: &Schema) -> Result<(), Memory>
+fn push_frame_in(out: &mut Transcript, schema: &Schema)
     requires { schema.now ≡ example }
 {
     let chunk = numbers(1, 1);
     let margins = numbers(1, 1);
     let core = core_box(schema, &chunk);
     let frame = frame(schema, &margins, &chunk);
-    push_box(out, "core", &core).and(push_box(out, "frame", &frame))
+    push_box(out, "core", &core);
+    push_box(out, "frame", &frame);
 }
 
-fn push_numbers(out: &mut String, numbers: &[ChunkAt]) -> Result<(), Memory> {
+fn push_numbers(out: &mut Transcript, numbers: &[ChunkAt]) {
     for number in numbers {
-        push_number(out, number)?;
+        push_number(out, number);
     }
-    push_word(out, "\n")
+    push_word(out, "\n");
 }
 
 /// Adds those of four chunks whose cores meet a box.
-fn push_meeting(out: &mut String, schema: &Schema) -> Result<(), Memory>
+fn push_meeting(out: &mut Transcript, schema: &Schema)
     requires { schema.now ≡ example }
 {
     let area = Bounds {
@@ -111,52 +115,62 @@ fn push_meeting(out: &mut String, schema: &Schema) -> Result<(), Memory>
         hi: at(0, 9),
     };
     let listed = [numbers(0, 0), numbers(0, 1), numbers(1, 1), numbers(9, 1)];
-    let found = chunks_meeting(*out.allocator(), schema, &area, &listed)?;
-    let told = push_numbers(out, found.as_slice());
-    drop(found);
-    told
+    match chunks_meeting(out.alloc(), schema, &area, &listed) {
+        Ok(found) => {
+            push_numbers(out, found.as_slice());
+            drop(found);
+        }
+        Err(Memory) => out.note_short(),
+    }
+}
+
+fn push_places_in(out: &mut Transcript, word: &str, schema: &Schema)
+    requires { schema.now ≡ example }
+{
+    match word {
+        "place" => push_place_in(out, schema),
+        "frame" => push_frame_in(out, schema),
+        _ => push_meeting(out, schema),
+    }
 }
 
 /// Adds what a call on the array gives.
-fn push_places(out: &mut String, word: &str) -> Result<(), Memory> {
-    let schema = schema(*out.allocator())?;
-    let told = match word {
-        "place" => push_place_in(out, &schema),
-        "frame" => push_frame_in(out, &schema),
-        _ => push_meeting(out, &schema),
-    };
-    drop(schema);
-    told
+fn push_places(out: &mut Transcript, word: &str) {
+    match schema(out.alloc()) {
+        Ok(schema) => {
+            push_places_in(out, word, &schema);
+            drop(schema);
+        }
+        Err(Memory) => out.note_short(),
+    }
 }
 
 /// Adds whether a box holds a coordinate, the box moved, and what it shares with another.
-fn push_tests(out: &mut String, area: &Bounds, moved: &Bounds) -> Result<(), Memory> {
+fn push_tests(out: &mut Transcript, area: &Bounds, moved: &Bounds) {
     let last = truth_word(area.holds(&at(3, 2)));
     let behind = truth_word(area.holds(&at(3, 3)));
-    let tested = push_words(out, &[last, " ", behind, "\n"]);
-    let moved = push_box(out, "moved", moved);
+    push_words(out, &[last, " ", behind, "\n"]);
+    push_box(out, "moved", moved);
     let other = Bounds {
         lo: at(0, 1),
         hi: at(2, 9),
     };
-    let shared = push_box(out, "shared", &area.meet(&other));
-    tested.and(moved).and(shared)
+    push_box(out, "shared", &area.meet(&other));
 }
 
-fn push_boxes(out: &mut String) -> Result<(), Memory> {
+fn push_boxes(out: &mut Transcript) {
     let lo = at(2, 0);
     let hi = at(3, 2);
     let by = at(-2, 5);
     let area = Bounds { lo, hi };
     let moved = area.shift(&by);
-    push_tests(out, &area, &moved)
+    push_tests(out, &area, &moved);
 }
 
-fn push_listed(out: &mut String, chunks: &[Chunk]) -> Result<(), Memory> {
+fn push_listed(out: &mut Transcript, chunks: &[Chunk]) {
     for chunk in chunks {
-        push_chunk(out, chunk)?;
+        push_chunk(out, chunk);
     }
-    Ok(())
 }
 
 /// A copy of an array of one cell, at place 7 of the last chunk.
@@ -183,30 +197,39 @@ fn copied_array(alloc: Global) -> Result<ChunkedArray, Memory> {
 }
 
 /// Adds the chunks of a copy of a change.
-fn push_changed(out: &mut String, changed: &Changed) -> Result<(), Memory> {
-    let copy = changed.copy()?;
-    let whole = push_words(out, &["whole ", truth_word(copy.whole), "\n"]);
-    let listed = push_listed(out, copy.chunks.as_slice());
-    drop(copy);
-    whole.and(listed)
+fn push_changed(out: &mut Transcript, changed: &Changed) {
+    match changed.copy() {
+        Ok(copy) => {
+            push_words(out, &["whole ", truth_word(copy.whole), "\n"]);
+            push_listed(out, copy.chunks.as_slice());
+            drop(copy);
+        }
+        Err(Memory) => out.note_short(),
+    }
+}
+
+/// Adds the chunks of an array, and those of a copy of a change that has them.
+fn push_array(out: &mut Transcript, array: ChunkedArray) {
+    push_listed(out, array.chunks.as_slice());
+    let changed = Changed {
+        schema: array.schema,
+        whole: true,
+        chunks: array.chunks,
+    };
+    push_changed(out, &changed);
+    drop(changed);
 }
 
 /// Adds the chunks of copies of an array and of a change.
-fn push_copies(out: &mut String) -> Result<(), Memory> {
-    let copy = copied_array(*out.allocator())?;
-    let of_array = push_listed(out, copy.chunks.as_slice());
-    let changed = Changed {
-        schema: copy.schema,
-        whole: true,
-        chunks: copy.chunks,
-    };
-    let of_change = push_changed(out, &changed);
-    drop(changed);
-    of_array.and(of_change)
+fn push_copies(out: &mut Transcript) {
+    match copied_array(out.alloc()) {
+        Ok(copy) => push_array(out, copy),
+        Err(Memory) => out.note_short(),
+    }
 }
 
 /// Adds what a call on chunks and their places gives.
-pub(crate) fn push_chunk_call(out: &mut String, word: &str, operands: &str) -> Result<(), Memory> {
+pub(crate) fn push_chunk_call(out: &mut Transcript, word: &str, operands: &str) {
     match word {
         "spell" => push_spelled(out, operands),
         "read" => push_read(out, operands),

@@ -13,30 +13,39 @@ use crate::places::push_chunk_call;
 use crate::words::front_of;
 use cell_values::{Bytes, Code, Memory, Name};
 use std::str::from_utf8;
-use test_kit::{push_count, push_text, push_word, text_of};
+use test_kit::{Transcript, push_count, push_text, push_word, text_of};
 
-/// Adds the name that a text is.
-fn push_name(out: &mut String, text: &str) -> Result<(), Memory> {
-    match Name::new(Bytes::from_slice(*out.allocator(), text.as_bytes())?) {
+fn push_name_in(out: &mut Transcript, text: Bytes) {
+    match Name::new(text) {
         Some(name) => {
-            let told = push_text(out, name.as_slice());
+            push_text(out, name.as_slice());
             drop(name);
-            told
         }
         None => push_word(out, "no name"),
     }
 }
 
+/// Adds the name that a text is.
+fn push_name(out: &mut Transcript, text: &str) {
+    match Bytes::from_slice(out.alloc(), text.as_bytes()) {
+        Ok(text) => push_name_in(out, text),
+        Err(Memory) => out.note_short(),
+    }
+}
+
 /// Adds the code of a number.
-fn push_code(out: &mut String, number: &str) -> Result<(), Memory> {
+fn push_code(out: &mut Transcript, number: &str) {
     match Code::new(number.parse::<u8>().unwrap_or(0)) {
-        Some(code) => push_word(out, "code ").and(push_count(out, u64::from(code.number()))),
+        Some(code) => {
+            push_word(out, "code ");
+            push_count(out, u64::from(code.number()));
+        }
         None => push_word(out, "no code"),
     }
 }
 
 /// Adds the answer to a call on coordinates, or to one of the value table, whose first word is its sign or its first operand.
-fn push_worked(out: &mut String, word: &str, operands: &str) -> Result<(), Memory> {
+fn push_worked(out: &mut Transcript, word: &str, operands: &str) {
     match word {
         "order" => push_word(out, order_of(operands)),
         "same" => push_word(out, sameness_of(operands)),
@@ -48,12 +57,7 @@ fn push_worked(out: &mut String, word: &str, operands: &str) -> Result<(), Memor
 }
 
 /// Adds the answer to a call.
-fn push_call(
-    out: &mut String,
-    lists: &mut Lists,
-    word: &str,
-    operands: &str,
-) -> Result<(), Memory> {
+fn push_call(out: &mut Transcript, lists: &mut Lists, word: &str, operands: &str) {
     match word {
         "list" => lists.push_call(out, operands),
         "name" => push_name(out, operands),
@@ -66,29 +70,28 @@ fn push_call(
 }
 
 /// Adds the answer to a text.
-fn push_answer(
-    out: &mut String,
-    lists: &mut Lists,
-    table: Table,
-    text: &str,
-) -> Result<(), Memory> {
+fn push_answer(out: &mut Transcript, lists: &mut Lists, table: Table, text: &str) {
     let (word, operands) = front_of(text);
     match table {
-        Table::Values => push_call(out, lists, word, operands).and(push_word(out, "\n")),
+        Table::Values => {
+            push_call(out, lists, word, operands);
+            push_word(out, "\n");
+        }
         Table::Chunks => push_chunk_call(out, word, operands),
-        Table::Aggregates => push_aggregate(out, operands).and(push_word(out, "\n")),
+        Table::Aggregates => {
+            push_aggregate(out, operands);
+            push_word(out, "\n");
+        }
     }
 }
 
 /// Adds the answer to a line of a table.
-pub(crate) fn push_call_line(
-    out: &mut String,
-    lists: &mut Lists,
-    table: Table,
-    line: &str,
-) -> Result<(), Memory> {
-    let text = text_of(*out.allocator(), line.as_bytes())?;
-    let told = push_answer(out, lists, table, from_utf8(text.as_slice()).unwrap_or(""));
-    drop(text);
-    told
+pub(crate) fn push_call_line(out: &mut Transcript, lists: &mut Lists, table: Table, line: &str) {
+    match text_of(out.alloc(), line.as_bytes()) {
+        Ok(text) => {
+            push_answer(out, lists, table, from_utf8(text.as_slice()).unwrap_or(""));
+            drop(text);
+        }
+        Err(Memory) => out.note_short(),
+    }
 }

@@ -1,5 +1,5 @@
 -- Sessions that wait for their thread, sessions that have ended, and the reaper's seat.
-use Rattle.std.specs.Prelude.{◌≡◌, ◌<◌, ℕ, true, List, [], length, slice_get, slice_index_or, Option, Some}
+use Rattle.std.specs.Prelude.{◌≡◌, ◌<◌, ◌≤◌, ℕ, true, All, List, [], length, slice_get, slice_index_or, Option, Some}
 use Rattle.afl_lexer.specs.Inner.Standing.{StandsAfter}
 use Rattle.afl_outside.specs.Disk.{Moment}
 use Rattle.afl_outside.specs.Sink.{SinkState}
@@ -55,6 +55,18 @@ module _ {D S K : Type 0} (shared : Shared D) where
   IsWaiting (Waiting seat own) = IsNewSeat shared (session_of seat) seat × StandsAfter [] own.splitter
   IsWaiting Working = ⊥
   IsWaiting (Done seat report) = ⊥
+
+  -- what threads of so many workers may do: each of these sessions waits
+  pub record CanWork (workers : ℕ) (desks : List (Desk D S K)) : Type 0 where
+    pub wait : All (λ desk. IsWaiting desk) desks
+    pub some : 1 ≤ workers
+    pub few : workers ≤ 64
+
+  -- a thread of so many workers may do the work of this session
+  pub record CanBegin (workers : ℕ) (desk : Desk D S K) : Type 0 where
+    pub waits : IsWaiting desk
+    pub some : 1 ≤ workers
+    pub few : workers ≤ 64
 
   -- the session of this number waits, with these streams
   abbrev pub IsReady : ℕ → Option (Streams S K) → Desk D S K → Type 0

@@ -4,7 +4,7 @@ use cell_values::Memory;
 use std::alloc::Global;
 use store_opening::Limits;
 use test_disks::{Watch, count_of, limits_of, new_database, old_database, pair_of, push_costs};
-use test_kit::{disk_of, push_hex, push_word};
+use test_kit::{Transcript, disk_of, push_hex, push_word};
 
 /// A disk that is watched, and how much a store over it may use.
 #[derive(Drop)]
@@ -26,11 +26,11 @@ impl Bench {
     /// The disk that a line makes, as `new 64 100`.
     pub(crate) fn of(alloc: Global, line: &str) -> Result<Bench, Memory> {
         let (format, limits) = line.split_once(' ').unwrap_or((line, ""));
-        let file = match format {
-            "format1" => old_database(alloc)?,
-            _ => new_database(alloc)?,
+        let made = match format {
+            "format1" => old_database(alloc),
+            _ => new_database(alloc),
         };
-        let disk = disk_of(alloc, file, None)?;
+        let disk = disk_of(alloc, made?, None)?;
         Ok(Bench {
             watch: Watch::new(alloc, disk)?,
             limits: limits_of(limits),
@@ -39,27 +39,32 @@ impl Bench {
     }
 
     /// Adds so many bytes of the disk from a place on.
-    fn push_bytes(&self, out: &mut String, at: u32, count: u32) -> Result<(), Memory> {
-        let bytes = self.watch.bytes()?;
-        push_hex(out, part_of(bytes.as_slice(), at as usize, count as usize))?;
-        push_word(out, "\n")
+    fn push_bytes(&self, out: &mut Transcript, at: u32, count: u32) {
+        match self.watch.bytes() {
+            Ok(bytes) => {
+                push_hex(out, part_of(bytes.as_slice(), at as usize, count as usize));
+                drop(bytes);
+            }
+            Err(Memory) => out.note_short(),
+        }
+        push_word(out, "\n");
     }
 
     /// Adds the answer to a line about the disk, and tells whether it is one.
-    pub(crate) fn push_answer(&mut self, out: &mut String, line: &str) -> Result<bool, Memory> {
+    pub(crate) fn push_answer(&mut self, out: &mut Transcript, line: &str) -> bool {
         let (word, text) = line.split_once(' ').unwrap_or((line, ""));
         let (number, count) = pair_of(text);
         match word {
             "calls" => {
-                push_costs(out, &self.watch, self.told)?;
+                push_costs(out, &self.watch, self.told);
                 self.told = self.watch.count();
-                push_word(out, "\n")?;
+                push_word(out, "\n");
             }
             "mark" => self.told = self.watch.count(),
             "fail" => self.watch.fail(u64::from(number)),
-            "bytes" => self.push_bytes(out, number, count)?,
-            _ => return Ok(false),
+            "bytes" => self.push_bytes(out, number, count),
+            _ => return false,
         }
-        Ok(true)
+        true
     }
 }

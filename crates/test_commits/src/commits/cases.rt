@@ -5,9 +5,9 @@ use cell_values::{Bytes, Memory};
 use std::alloc::Global;
 use std::thread::Threads;
 use test_disks::{
-    QuietDisk, answered, held_in, new_database, old_database, push_numbered, with_change,
+    QuietDisk, Watch, answered, held_in, new_database, old_database, push_numbered, with_change,
 };
-use test_kit::{disk_of, push_word, push_words};
+use test_kit::{Transcript, disk_of, push_word, push_words};
 
 /// A file, a change of it, and what it holds before and after that.
 #[derive(Drop)]
@@ -33,97 +33,149 @@ fn text_with<R: Threads + Sync>(
     text_of(alloc, &file)
 }
 
-/// What a file holds before and after a change.
-fn versions_of<R: Threads + Sync>(
+/// A file that was made, and what it holds before and after a change.
+fn case_of<'a, R: Threads + Sync>(
     rt: &R,
     alloc: Global,
-    file: &Bytes,
-    change: &str,
-) -> Result<Versions, Memory> {
-    let before = text_of(alloc, file)?;
-    let after = text_with(rt, alloc, file, change)?;
-    Ok(Versions { before, after })
+    made: Result<Bytes, Memory>,
+    change: &'a str,
+) -> Result<Case<'a>, Memory> {
+    let file = made?;
+    let before = text_of(alloc, &file)?;
+    let after = text_with(rt, alloc, &file, change)?;
+    Ok(Case {
+        file,
+        change,
+        versions: Versions { before, after },
+    })
+}
+
+/// A disk with a case's file, whose call of this number fails, and what others see of it.
+fn disk_over(
+    alloc: Global,
+    case: &Case<'_>,
+    fails: Option<u64>,
+) -> Result<(QuietDisk, Watch), Memory> {
+    let disk = disk_of(alloc, case.file.copy()?, fails)?;
+    QuietDisk::watched(alloc, disk)
 }
 
 /// Adds what the change is answered where the call of this number fails, and what a stop behind each of its calls leaves. How many calls
 /// there were is the answer.
 fn push_attempt<R: Threads + Sync>(
     rt: &R,
-    out: &mut String,
+    out: &mut Transcript,
     case: &Case<'_>,
     fails: Option<u64>,
-) -> Result<usize, Memory> {
-    let alloc = *out.allocator();
-    let disk = disk_of(alloc, case.file.copy()?, fails)?;
-    let (disk, watch) = QuietDisk::watched(alloc, disk)?;
-    answered(rt, alloc, disk, LIMITS, case.change).tell(out)?;
-    push_moments(out, &watch, &case.versions)
-}
-
-fn push_range(out: &mut String, from: usize, to: usize, told: &str) -> Result<(), Memory> {
-    if from == to {
-        push_numbered(out, "call ", from as u64, " fails: ")?;
-    } else {
-        write!(out, "calls {from} to {to} fail, each alone: ")?;
+) -> usize {
+    match disk_over(out.alloc(), case, fails) {
+        Ok((disk, watch)) => {
+            answered(rt, out.alloc(), disk, LIMITS, case.change).tell(out);
+            push_moments(out, &watch, &case.versions)
+        }
+        Err(Memory) => {
+            out.note_short();
+            0
+        }
     }
-    push_word(out, told)
 }
 
+/// What comes of the change where the call of this number fails.
 fn told_failing<R: Threads + Sync>(
     rt: &R,
     alloc: Global,
     case: &Case<'_>,
-    call: u64,
+    call: usize,
 ) -> Result<String, Memory> {
-    let mut told = String::new(alloc);
-    push_attempt(rt, &mut told, case, Some(call))?;
-    Ok(told)
+    let mut told = Transcript::new(alloc);
+    push_attempt(rt, &mut told, case, Some(call as u64));
+    told.finish()
+}
+
+/// What comes of the change where a call fails, of this number or of those behind it.
+#[derive(Drop)]
+struct Failing {
+    from: usize,
+    told: String,
+}
+
+impl Failing {
+    /// Adds it for the calls up to this number.
+    fn push(&self, out: &mut Transcript, to: usize) {
+        if self.from == to {
+            push_numbered(out, "call ", to as u64, " fails: ");
+        } else {
+            push_numbered(out, "calls ", self.from as u64, " to ");
+            push_numbered(out, "", to as u64, " fail, each alone: ");
+        }
+        push_word(out, self.told.as_str());
+    }
+
+    /// Goes on to the call of this number. Where another thing comes of it, what came of those before is added.
+    fn go_on(&mut self, out: &mut Transcript, call: usize, told: String) {
+        if call > 0 && told.as_str() != self.told.as_str() {
+            self.push(out, call - 1);
+            self.from = call;
+        }
+        self.told = told;
+    }
 }
 
 /// Adds what comes of the change where each of so many calls fails. Calls of which the same comes are told at once.
-fn push_failing<R: Threads + Sync>(
-    rt: &R,
-    out: &mut String,
-    case: &Case<'_>,
-    calls: usize,
-) -> Result<(), Memory> {
-    let mut told = String::new(*out.allocator());
-    let mut from = 0;
+fn push_failing<R: Threads + Sync>(rt: &R, out: &mut Transcript, case: &Case<'_>, calls: usize) {
+    let mut failing = Failing {
+        from: 0,
+        told: String::new(out.alloc()),
+    };
     for call in 0..calls {
-        let next = told_failing(rt, *out.allocator(), case, call as u64)?;
-        if call > 0 && next.as_str() != told.as_str() {
-            push_range(out, from, call - 1, told.as_str())?;
-            from = call;
+        match told_failing(rt, out.alloc(), case, call) {
+            Ok(told) => failing.go_on(out, call, told),
+            Err(Memory) => out.note_short(),
         }
-        told = next;
     }
-    push_range(out, from, calls.saturating_sub(1), told.as_str())
+    failing.push(out, calls.saturating_sub(1));
 }
 
-/// Adds what comes of a change of a file.
+/// Adds what comes of a change of a file, if that was made.
 fn push_change<R: Threads + Sync>(
     rt: &R,
-    out: &mut String,
+    out: &mut Transcript,
     title: &str,
-    file: Bytes,
+    made: Result<Bytes, Memory>,
     change: &str,
-) -> Result<(), Memory> {
-    let versions = versions_of(rt, *out.allocator(), &file, change)?;
-    let case = Case {
-        file,
-        change,
-        versions,
-    };
-    push_words(out, &["## ", title, "\nno call fails: "])?;
-    let calls = push_attempt(rt, out, &case, None)?;
-    push_failing(rt, out, &case, calls)
+) {
+    match case_of(rt, out.alloc(), made, change) {
+        Ok(case) => push_case(rt, out, title, &case),
+        Err(Memory) => out.note_short(),
+    }
+}
+
+fn push_case<R: Threads + Sync>(rt: &R, out: &mut Transcript, title: &str, case: &Case<'_>) {
+    push_words(out, &["## ", title, "\nno call fails: "]);
+    let calls = push_attempt(rt, out, case, None);
+    push_failing(rt, out, case, calls);
 }
 
 const FIRST: &str = "store(build(<v:int64>[i=0:2,2,0], i), A)";
 
 const SECOND: &str = "store(build(<v:int64>[i=0:2,2,0], i+10), A)";
 
+const REMOVAL: &str = "remove_versions(A, 2)";
+
 const CREATED: &str = "create array B <v:int64>[i=0:0,1,0]";
+
+/// A database with some changes.
+fn with_changes<R: Threads + Sync>(
+    rt: &R,
+    alloc: Global,
+    changes: &[&str],
+) -> Result<Bytes, Memory> {
+    let mut file = new_database(alloc)?;
+    for change in changes {
+        file = with_change(rt, alloc, file, change)?;
+    }
+    Ok(file)
+}
 
 /// A database in whose log no entry is left.
 fn with_full_log<R: Threads + Sync>(rt: &R, alloc: Global) -> Result<Bytes, Memory> {
@@ -136,15 +188,18 @@ fn with_full_log<R: Threads + Sync>(rt: &R, alloc: Global) -> Result<Bytes, Memo
 }
 
 /// Adds each case.
-pub(crate) fn push_cases<R: Threads + Sync>(rt: &R, out: &mut String) -> Result<(), Memory> {
-    let alloc = *out.allocator();
-    let first = with_change(rt, alloc, new_database(alloc)?, FIRST)?;
-    push_change(rt, out, SECOND, first.copy()?, SECOND)?;
-    let second = with_change(rt, alloc, first, SECOND)?;
-    let removal = "remove_versions(A, 2)";
-    push_change(rt, out, removal, second, removal)?;
-    let full = with_full_log(rt, alloc)?;
-    push_change(rt, out, "the 65th commit", full, CREATED)?;
+pub(crate) fn push_cases<R: Threads + Sync>(rt: &R, out: &mut Transcript) {
+    let alloc = out.alloc();
+    push_change(rt, out, SECOND, with_changes(rt, alloc, &[FIRST]), SECOND);
+    let removed = with_changes(rt, alloc, &[FIRST, SECOND]);
+    push_change(rt, out, REMOVAL, removed, REMOVAL);
+    push_change(
+        rt,
+        out,
+        "the 65th commit",
+        with_full_log(rt, alloc),
+        CREATED,
+    );
     let migration = "the first commit to a file of format 1";
-    push_change(rt, out, migration, old_database(alloc)?, CREATED)
+    push_change(rt, out, migration, old_database(alloc), CREATED);
 }

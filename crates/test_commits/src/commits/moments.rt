@@ -4,7 +4,7 @@ use cell_values::{Bytes, Memory};
 use std::alloc::Global;
 use store_opening::Limits;
 use test_disks::{Watch, held_in};
-use test_kit::push_words;
+use test_kit::{Transcript, push_word, push_words};
 
 /// How much the stores may use.
 pub(crate) const LIMITS: Limits = Limits {
@@ -74,27 +74,26 @@ fn seen_behind(
     Ok(seen)
 }
 
-fn push_seen(out: &mut String, seen: Seen) -> Result<(), Memory> {
+fn push_seen(out: &mut Transcript, seen: Seen) {
     let old = if seen.old { "o" } else { "" };
     let new = if seen.new { "n" } else { "" };
     let other = if seen.other { "x" } else { "" };
-    push_words(out, &[" ", old, new, other])
+    push_words(out, &[" ", old, new, other]);
 }
 
 /// Adds what the images open as, before the first call and behind each write and each sync: o as before the change, n with it, x anything
 /// else. How many calls there were is the answer.
-pub(crate) fn push_moments(
-    out: &mut String,
-    watch: &Watch,
-    versions: &Versions,
-) -> Result<usize, Memory> {
+pub(crate) fn push_moments(out: &mut Transcript, watch: &Watch, versions: &Versions) -> usize {
     let count = watch.count();
-    push_words(out, &[" "])?;
+    push_word(out, " ");
     for calls in 0..count.saturating_add(1) {
         if watch.patterns(calls) > 0 {
-            push_seen(out, seen_behind(*out.allocator(), watch, versions, calls)?)?;
+            match seen_behind(out.alloc(), watch, versions, calls) {
+                Ok(seen) => push_seen(out, seen),
+                Err(Memory) => out.note_short(),
+            }
         }
     }
-    push_words(out, &["\n"])?;
-    Ok(count)
+    push_word(out, "\n");
+    count
 }

@@ -11,91 +11,91 @@ use crate::commits::bench::Bench;
 use cell_values::Memory;
 use std::thread::Threads;
 use test_disks::{SessionPair, answer_of_pair, pair_over, push_counts};
-use test_kit::{push_word, push_words};
+use test_kit::{Transcript, push_word, push_words};
 
 /// Adds a line with its answer.
 fn push_line<R: Threads + Sync>(
     rt: &R,
-    out: &mut String,
+    out: &mut Transcript,
     bench: &mut Bench,
     pair: &mut SessionPair,
     line: &str,
-) -> Result<(), Memory>
+)
     requires { IsPair pair.old }
     ensures { IsPair pair.new }
 {
-    push_words(out, &["> ", line, "\n"])?;
-    if bench.push_answer(out, line)? {
-        return Ok(());
-    }
-    match line {
-        "counts" => push_counts(out, pair),
-        line => answer_of_pair(rt, *out.allocator(), pair, line).tell(out),
+    push_words(out, &["> ", line, "\n"]);
+    if line == "counts" {
+        push_counts(out, pair);
+    } else if !bench.push_answer(out, line) {
+        answer_of_pair(rt, out.alloc(), pair, line).tell(out);
     }
 }
 
 /// Adds each line with its answer.
 fn push_steps<R: Threads + Sync>(
     rt: &R,
-    out: &mut String,
+    out: &mut Transcript,
     bench: &mut Bench,
     pair: &mut SessionPair,
     steps: &str,
-) -> Result<(), Memory>
+)
     requires { IsPair pair.old }
 {
-    let mut told = Ok(());
     for line in steps.lines() {
-        told = told.and(push_line(rt, out, bench, pair, line));
+        push_line(rt, out, bench, pair, line);
     }
-    told
 }
 
 /// Opens the store for a line, and adds that line and those behind it, with their answers.
 fn push_store<R: Threads + Sync>(
     rt: &R,
-    out: &mut String,
+    out: &mut Transcript,
     bench: &mut Bench,
     line: &str,
     steps: &str,
-) -> Result<(), Memory> {
-    push_words(out, &["> ", line, "\n"])?;
-    match pair_over(*out.allocator(), &bench.watch, bench.limits) {
-        Ok(mut pair) => { push_word(out, "ok\n").and(push_steps(rt, out, bench, &mut pair, steps)) }
+) {
+    push_words(out, &["> ", line, "\n"]);
+    match pair_over(out.alloc(), &bench.watch, bench.limits) {
+        Ok(mut pair) => {
+            push_word(out, "ok\n");
+            push_steps(rt, out, bench, &mut pair, steps);
+        }
         Err(answer) => answer.tell(out),
     }
 }
 
-/// Adds a title, and the lines behind it, with their answers.
-fn push_run<R: Threads + Sync>(
+/// Adds the lines behind the one that makes the disk, with their answers. Each line of `open` opens a store anew.
+fn push_stores<R: Threads + Sync>(
     rt: &R,
-    out: &mut String,
-    title: &str,
-    lines: &str,
-) -> Result<(), Memory> {
-    push_words(out, &["## ", title, "\n"])?;
-    let (line, steps) = lines.split_once('\n').unwrap_or((lines, ""));
-    let mut bench = Bench::of(*out.allocator(), line)?;
-    for (place, steps) in steps.split("open\n").enumerate() {
-        if place == 0 {
-            push_store(rt, out, &mut bench, line, steps)?;
-        } else {
-            push_store(rt, out, &mut bench, "open", steps)?;
-        }
+    out: &mut Transcript,
+    bench: &mut Bench,
+    line: &str,
+    steps: &str,
+) {
+    let mut is_first = true;
+    for steps in steps.split("open\n") {
+        let opening = if is_first { line } else { "open" };
+        push_store(rt, out, bench, opening, steps);
+        is_first = false;
     }
-    Ok(())
+}
+
+/// Adds a title, and the lines behind it, with their answers.
+fn push_run<R: Threads + Sync>(rt: &R, out: &mut Transcript, title: &str, lines: &str) {
+    push_words(out, &["## ", title, "\n"]);
+    let (line, steps) = lines.split_once('\n').unwrap_or((lines, ""));
+    match Bench::of(out.alloc(), line) {
+        Ok(mut bench) => push_stores(rt, out, &mut bench, line, steps),
+        Err(Memory) => out.note_short(),
+    }
 }
 
 /// Adds the lines of a text with their answers.
-pub(crate) fn push_runs<R: Threads + Sync>(
-    rt: &R,
-    out: &mut String,
-    text: &str,
-) -> Result<(), Memory> {
+pub(crate) fn push_runs<R: Threads + Sync>(rt: &R, out: &mut Transcript, text: &str) {
     for run in text.split("## ") {
         if let Some((title, lines)) = run.split_once('\n') {
-            push_run(rt, out, title, lines)?;
+            push_run(rt, out, title, lines);
         }
     }
-    Ok(())
 }

@@ -14,7 +14,7 @@ use plan_changes::entry_named;
 use std::alloc::Global;
 use std::mem::replace;
 use std::thread::Threads;
-use test_kit::name_of;
+use test_kit::{Transcript, name_of};
 use test_quiet::{
     Answer, Hold, QuietDisk, Step, Watch, named_leaf, pair_of, push_numbered, step_of,
 };
@@ -135,20 +135,20 @@ fn answer_to<R: Threads + Sync>(
     rt: &R,
     alloc: Global,
     pair: &mut SessionPair,
-    session: &str,
+    session: u32,
     step: Step<'_>,
 ) -> Answer
     requires { IsPair pair.old }
     ensures { IsPair pair.new }
 {
     match session {
-        "0" => {
+        0 => {
             let held = replace(&mut pair.first, Hold::Free);
             let (held, answer) = take_step(rt, alloc, &mut pair.store, 0, held, step);
             pair.first = held;
             answer
         }
-        "1" => {
+        1 => {
             let held = replace(&mut pair.second, Hold::Free);
             let (held, answer) = take_step(rt, alloc, &mut pair.store, 1, held, step);
             pair.second = held;
@@ -218,14 +218,14 @@ pub fn answer_of_pair<R: Threads + Sync>(
 }
 
 /// Adds how many pages nobody can name, and how many entries and notes there are.
-pub fn push_counts(out: &mut String, pair: &mut SessionPair) -> Result<(), Memory>
+pub fn push_counts(out: &mut Transcript, pair: &mut SessionPair)
     requires { IsPair pair.old }
     ensures { IsPair pair.new }
 {
     let free = pair.store.free_pages();
     let entries = pair.store.history().len() as u64;
     let notes = pair.store.notes();
-    push_numbered(out, "", u64::from(free), " pages free, ")
-        .and(push_numbered(out, "", entries, " entries, "))
-        .and(push_numbered(out, "", notes, " notes\n"))
+    push_numbered(out, "", u64::from(free), " pages free, ");
+    push_numbered(out, "", entries, " entries, ");
+    push_numbered(out, "", notes, " notes\n");
 }

@@ -1,21 +1,35 @@
-use denote.Param.Send.{sendable}
-use Rattle.std.proofs.Common.{rules, get_or, subst}
-use Rattle.std.proofs.Crossing.{crosses}
+use denote.Exit.{no}
+use denote.Param.Send.{arg_send, arg_sync, param_send, param_sync, shr_sync}
+use Rattle.std.proofs.Common.{rules, All, get_or, subst, sym}
 use Rattle.std.proofs.alloc.Global.TheSendSync as global_way
-use Rattle.session_threads.specs.Inner.Desks.{HasWorked}
-use Rattle.session_threads.proofs.Crossing.{desk_send, shared_field_sync, shared_sync}
+use Rattle.session_threads.specs.Inner.Desks.{HasWorked, IsWaiting}
+use Rattle.session_threads.proofs.Crossing.{desk_send, five_sync, options_sync, shared_sync}
 use Rattle.session_threads.proofs.Desks.{all_worked}
 use Rattle.session_threads.proofs.desk.work_all.Goals as goal
 
 pub for_each_mut-requires-send-T : goal.for_each_mut-requires-send-T
-for_each_mut-requires-send-T g c κs within = search (sendable, crosses, desk_send) depth 40
+for_each_mut-requires-send-T g c κs within = let t = c.type_bounds in param_send 1 _ (arg_send _ no _ (desk_send _ _ _ _ t.send-D t.send-S t.send-K))
 
 pub for_each_mut-requires-sync-F : goal.for_each_mut-requires-sync-F
 for_each_mut-requires-sync-F g c κs within =
-    let r = c.type_bounds.sync-R in
-    let y = c.type_bounds.sync-G in
-    let d = c.type_bounds.send-D in
-    search (sendable, crosses, shared_sync, shared_field_sync, global_way.the_sync) depth 40
+    let t = c.type_bounds in
+    param_sync 2 _ (arg_sync _ no _ (five_sync _ _ _ _ _ _ (shr_sync _ _ _ t.sync-R) (shr_sync _ _ _ global_way.the_sync) (shr_sync _ _ _ (shared_sync _ _ t.send-D))
+    (shr_sync _ _ _ options_sync) (shr_sync _ _ _ t.sync-G)))
+
+pub for_each_mut-requires-clause-accepts : goal.for_each_mut-requires-clause-accepts
+for_each_mut-requires-clause-accepts g c κs within =
+    let t = c.type_bounds in
+    let waiting = subst (λ desks. All (λ desk. IsWaiting c.args.shared.now desk) desks) (sym c.as_mut_slice.ensures.value) c.requires.wait in
+    λ i p near is. (
+      record { waits = subst (IsWaiting c.args.shared.now) (sym is) (waiting i p.now near); some = c.requires.some; few = c.requires.few },
+      (
+        param_send _ _ (arg_send _ no _ t.send-D),
+        param_send _ _ (arg_send _ no _ t.send-S),
+        param_send _ _ (arg_send _ no _ t.send-K),
+        param_sync _ _ (arg_sync _ no _ t.sync-G),
+        param_sync _ _ (arg_sync _ no _ t.sync-R),
+      ),
+    )
 
 pub returns-clause-desks : goal.returns-clause-desks
 returns-clause-desks g c =

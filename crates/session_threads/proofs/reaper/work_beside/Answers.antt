@@ -1,18 +1,15 @@
-use denote.Param.Send.{sendable}
+use denote.Exit.{no}
+use denote.Param.Send.{arg_send, param_send, shr_send}
+use Rattle.session_threads.proofs.Crossing.{seat_send, shared_sync, three_send}
 use Rattle.session_threads.proofs.reaper.work_beside.Goals as goal
 
--- what the scope asks: what the function does, and what its bounds say
-pub scoped-requires : goal.scoped-requires
-scoped-requires g c =
+pub join-own-requires-send-F : goal.join-own-requires-send-F
+join-own-requires-send-F g c κs within =
     let t = c.type_bounds in
-    let d = t.send-D in
-    let s = t.send-S in
-    let k = t.send-K in
-    let y = t.sync-G in
-    let r = t.sync-R in
-    record {
-      at = λ a. (
-        (c.requires.desks, c.requires.own, c.requires.workers.0, c.requires.workers.1),
-        (search sendable depth 20, search sendable depth 20, search sendable depth 20, search sendable depth 20, search sendable depth 20),
-      );
-    }
+    param_send 1 _ (arg_send _ no _ (three_send _ _ _ _ (shr_send _ _ _ t.sync-R) (shr_send _ _ _ (shared_sync _ _ t.send-D)) (seat_send _ _ t.send-D)))
+
+pub join-own-requires-send-A : goal.join-own-requires-send-A
+join-own-requires-send-A g c κs within = param_send 3 _ (arg_send _ no _ (seat_send _ _ c.type_bounds.send-D))
+
+pub returns-clause-desks : goal.returns-clause-desks
+returns-clause-desks g c = c.join-own.ensures.second.0
