@@ -2,8 +2,7 @@
 ghost use Rattle.std.specs.Prelude.{◌≤◌, length};
 
 use crate::digits::changed;
-use crate::tell::push_numbers;
-use crate::told::{push_counted, push_named};
+use crate::told::{push_counted, push_named, push_numbers};
 use afl_outside::{Disk, MemDisk};
 use cell_values::{Bytes, List, Memory};
 use chunk_map::{DirEntry, Directory};

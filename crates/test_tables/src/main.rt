@@ -13,6 +13,7 @@ use std::sync::Wait;
 use std::thread::Threads;
 use std::time::Clock;
 use test_catalogs::push_catalog_table;
+use test_changes::push_change_table;
 use test_commits::push_commit_table;
 use test_kit::Transcript;
 use test_language::push_language_table;
@@ -33,6 +34,7 @@ fn push_table<R: AllocGlobal + Threads + Wait + Clock + Sync>(
     push_language_table(out, title, lines);
     push_page_table(out, title);
     push_catalog_table(out, title, text);
+    push_change_table(out, title);
     push_source_table(rt, out, title, text);
     push_run_table(rt, out, title, text);
     push_commit_table(rt, out, title, text);

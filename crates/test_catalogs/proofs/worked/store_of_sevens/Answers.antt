@@ -1,7 +1,0 @@
-use Rattle.test_catalogs.proofs.Made.{sevens_as}
-use Rattle.test_catalogs.proofs.worked.store_of_sevens.Goals as goal
-
-pub returns : goal.returns
-returns c =
-    sevens_as c.in_ok-name.name c.in_ok-schema.schema c.in_ok-places.places c.lit.result c.build-plan.result
-    c.in_ok-name.ensures c.in_ok-schema.ensures c.in_ok-places.ensures c.lit.ensures c.build-plan.ensures
