@@ -1,5 +1,5 @@
 -- The name of the last array.
-use Rattle.std.proofs.Common.{◌≡◌, ℕ, zero, suc, ◌+◌, ◌-◌, ◌≤◌, ◌<◌, List, [], ◌∷◌, ◌++◌, length, get_or, Option, Some, Result, Ok, refl, sym, ap, subst, ◌∙◌, arith}
+use Rattle.std.proofs.Common.{◌≡◌, ℕ, zero, suc, ◌+◌, ◌-◌, ◌≤◌, ◌<◌, List, [], ◌∷◌, ◌++◌, length, get_or, Option, Some, None, Result, Ok, refl, sym, ap, subst, ◌∙◌, arith}
 use Rattle.version_catalog.specs.declared.rules.catalog.CatalogArray.{CatalogArray}
 use Rattle.file_items.specs.Items.{repeat, Stopped}
 use Rattle.file_items.specs.declared.bytes.stop.Stop.{Stop}
@@ -16,6 +16,10 @@ last_name_at (array ∷ next ∷ arrays) d (suc i) e = last_name_at (next ∷ ar
 pub last_is : (arrays items : List CatalogArray) (last : CatalogArray) (name : List ℕ) → items ≡ arrays → 1 ≤ length items → last ≡ get_or items (length items - 1) last → name ≡ last.entry.name → Some name ≡ last_name arrays
 last_is arrays items last name same there is e =
     sym (ap last_name (sym same) ∙ last_name_at items last (length items - 1) (omega arith) ∙ ap (λ (array : CatalogArray). Some array.entry.name) (sym is) ∙ ap (λ (n : List ℕ). Some n) (sym e))
+
+pub none_last : (arrays items : List CatalogArray) → items ≡ arrays → length items < 1 → None ≡ last_name arrays
+none_last arrays [] same short = ap last_name same
+none_last arrays (x ∷ items) same short = absurd (omega (arith, short))
 
 pub last_name_push : (arrays : List CatalogArray) (array : CatalogArray) → last_name (arrays ++ array ∷ []) ≡ Some array.entry.name
 last_name_push [] array = refl

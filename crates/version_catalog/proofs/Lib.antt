@@ -1,6 +1,7 @@
 pub mod Arrays
 pub mod DirectoryLaws
 pub mod Fields
+pub mod Handing
 pub mod Kept
 pub mod Last
 pub mod Laws

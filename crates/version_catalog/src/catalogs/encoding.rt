@@ -16,8 +16,7 @@ fn put_blob(out: &mut Bytes, blob: &BlobAt) -> Result<(), Memory>
     ensures { OnOk result (out.new ≡ out.old ++ spell_blob blob.now) }
 {
     put_u64(out, blob.length)?;
-    put_pages(out, blob.pages.as_slice())?;
-    Ok(())
+    put_pages(out, blob.pages.as_slice())
 }
 
 #[tactic(auto, unfolding(crate::specs::Spelling::spell_version))]
@@ -25,8 +24,7 @@ fn put_version(out: &mut Bytes, number: u32, directory: &BlobAt) -> Result<(), M
     ensures { OnOk result (out.new ≡ out.old ++ spell_version (record { number = number; directory = directory.now })) }
 {
     put_u32(out, number)?;
-    put_blob(out, directory)?;
-    Ok(())
+    put_blob(out, directory)
 }
 
 /// How many versions have a directory.
@@ -60,8 +58,7 @@ fn put_numbered(
     ensures { OnOk result (out.new ≡ out.old ++ (to_le_bytes w32 next ++ spell_counted w32 spell_version (versions_at numbers.now directories.now))) }
 {
     put_u32(out, next)?;
-    put_versions(out, numbers, directories)?;
-    Ok(())
+    put_versions(out, numbers, directories)
 }
 
 #[tactic(auto, unfolding(crate::specs::Spelling::spell_array))]
@@ -72,8 +69,7 @@ fn put_array(out: &mut Bytes, array: &CatalogArray) -> Result<(), Memory>
     put_name(out, &entry.name)?;
     put_schema(out, &entry.schema)?;
     let numbers = entry.versions.as_slice();
-    put_numbered(out, entry.next, numbers, array.directories.as_slice())?;
-    Ok(())
+    put_numbered(out, entry.next, numbers, array.directories.as_slice())
 }
 
 fn put_arrays(out: &mut Bytes, arrays: &[CatalogArray]) -> Result<(), Memory>
@@ -100,16 +96,14 @@ fn put_named_schema(out: &mut Bytes, name: &Name, schema: &Schema) -> Result<(),
     ensures { OnOk result (out.new ≡ out.old ++ (spell_name name.now ++ spell_schema schema.now)) }
 {
     put_name(out, name)?;
-    put_schema(out, schema)?;
-    Ok(())
+    put_schema(out, schema)
 }
 
 fn put_create(out: &mut Bytes, name: &Name, schema: &Schema) -> Result<(), Memory>
     ensures { OnOk result (out.new ≡ out.old ++ (1 ∷ (spell_name name.now ++ spell_schema schema.now))) }
 {
     out.push(1)?;
-    put_named_schema(out, name, schema)?;
-    Ok(())
+    put_named_schema(out, name, schema)
 }
 
 fn put_first(
@@ -122,8 +116,7 @@ fn put_first(
 {
     out.push(2)?;
     put_named_schema(out, name, schema)?;
-    put_blob(out, directory)?;
-    Ok(())
+    put_blob(out, directory)
 }
 
 fn put_next(out: &mut Bytes, name: &Name, directory: &BlobAt) -> Result<(), Memory>
@@ -131,16 +124,14 @@ fn put_next(out: &mut Bytes, name: &Name, directory: &BlobAt) -> Result<(), Memo
 {
     out.push(3)?;
     put_name(out, name)?;
-    put_blob(out, directory)?;
-    Ok(())
+    put_blob(out, directory)
 }
 
 fn put_remove(out: &mut Bytes, name: &Name) -> Result<(), Memory>
     ensures { OnOk result (out.new ≡ out.old ++ (4 ∷ spell_name name.now)) }
 {
     out.push(4)?;
-    put_name(out, name)?;
-    Ok(())
+    put_name(out, name)
 }
 
 fn put_below(out: &mut Bytes, name: &Name, below: u32) -> Result<(), Memory>
@@ -148,8 +139,7 @@ fn put_below(out: &mut Bytes, name: &Name, below: u32) -> Result<(), Memory>
 {
     out.push(5)?;
     put_name(out, name)?;
-    put_u32(out, below)?;
-    Ok(())
+    put_u32(out, below)
 }
 
 #[tactic(auto, unfolding(crate::specs::Spelling::spell_record))]

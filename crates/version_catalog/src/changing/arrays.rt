@@ -11,15 +11,15 @@ use cell_values::{List, Memory, Name, Schema};
 use plan_changes::{NameEntry, from_number, is_before, is_same};
 
 /// How many arrays come before a name.
-fn place_of(arrays: &List<CatalogArray>, name: &Name) -> usize
+fn place_of(arrays: &[CatalogArray], name: &Name) -> usize
     ensures place { result ≡ prefix_len (λ array. is_before array.entry.name name.now) arrays.now }
     ensures within { result ≤ length arrays.now }
 {
-    arrays
-        .as_slice()
-        .iter()
-        .take_while(|array| is_before(&array.entry.name, name))
-        .count()
+    let mut place = 0;
+    while place < arrays.len() && is_before(&arrays[place].entry.name, name) {
+        place += 1;
+    }
+    place
 }
 
 /// One more array, without versions.
@@ -31,7 +31,7 @@ pub(crate) fn with_new(
     ensures { IfOk result (λ more. more ≡ with_new name.now schema.now arrays) }
 {
     let mut arrays = arrays;
-    let place = place_of(&arrays, name);
+    let place = place_of(arrays.as_slice(), name);
     let entry = NameEntry {
         name: name.copy()?,
         schema: schema.copy()?,
@@ -102,11 +102,13 @@ pub(crate) fn with_first(
 fn count_below(numbers: &List<u32>, below: u32) -> usize
     ensures { result ≡ count_by (λ number. nat_lt number below) numbers.now }
 {
-    numbers
-        .as_slice()
-        .iter()
-        .filter(|number| **number < below)
-        .count()
+    let mut count = 0;
+    for number in numbers.as_slice() {
+        if *number < below {
+            count += 1;
+        }
+    }
+    count
 }
 
 /// The directories but for the first `count`.

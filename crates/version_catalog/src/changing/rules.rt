@@ -1,6 +1,6 @@
 //! Which records a catalogue allows.
 ghost use Rattle.std.specs.Prelude.{◌≡◌, ◌&&◌, not};
-ghost use Rattle.std.specs.List.{list_any, list_all, find};
+ghost use Rattle.std.specs.List.{list_all, find};
 ghost use Rattle.std.specs.Option.{option_copied};
 ghost use Rattle.plan_changes.specs.Allowed.{has_number, has_room};
 ghost use Rattle.plan_changes.specs.Changes.{has_array, last_of, newest_of};
@@ -10,34 +10,29 @@ use crate::{Catalog, CatalogArray, CatalogRecord};
 use cell_values::{List, Name};
 use plan_changes::{is_same, last_of};
 
-fn any_array(arrays: &List<CatalogArray>, name: &Name) -> bool
-    ensures { result ≡ list_any (is_array name.now) arrays.now }
+/// Whether an array has a number for one more version, if it has this name.
+fn has_its_number(array: &CatalogArray, name: &Name) -> bool
+    ensures { result ≡ has_number name.now array.now.entry }
 {
-    arrays
-        .as_slice()
-        .iter()
-        .any(|array| is_same(&array.entry.name, name))
+    !is_same(&array.entry.name, name) || array.entry.next < 65536
 }
 
-/// Whether an array has this name.
-pub(crate) fn has_array(arrays: &List<CatalogArray>, name: &Name) -> bool
-    ensures { result ≡ has_array (entries_of arrays.now) name.now }
-{
-    any_array(arrays, name)
-}
-
-fn all_numbers(arrays: &List<CatalogArray>, name: &Name) -> bool
+fn all_numbers(arrays: &[CatalogArray], name: &Name) -> bool
     ensures { result ≡ list_all (λ array. has_number name.now array.entry) arrays.now }
 {
-    arrays.as_slice().iter().all(|array| !is_same(&array.entry.name, name)
-        || array.entry.next < 65536)
+    for array in arrays {
+        if !has_its_number(array, name) {
+            return false;
+        }
+    }
+    true
 }
 
 /// Whether the array of this name has a number for one more version.
 fn has_number(arrays: &List<CatalogArray>, name: &Name) -> bool
     ensures { result ≡ list_all (has_number name.now) (entries_of arrays.now) }
 {
-    all_numbers(arrays, name)
+    all_numbers(arrays.as_slice(), name)
 }
 
 /// The array of a name.
@@ -48,6 +43,13 @@ fn array_named<'a>(arrays: &'a List<CatalogArray>, name: &Name) -> Option<&'a Ca
         .as_slice()
         .iter()
         .find(|array| is_same(&array.entry.name, name))
+}
+
+/// Whether an array has this name.
+pub(crate) fn has_array(arrays: &List<CatalogArray>, name: &Name) -> bool
+    ensures { result ≡ has_array (entries_of arrays.now) name.now }
+{
+    array_named(arrays, name).is_some()
 }
 
 /// The newest version of an array, 0 where there is none.

@@ -6,7 +6,6 @@ use crate::rules::BlobAt;
 use file_items::{Copies, Memory, Name, Schema};
 
 /// What a commit changes in the catalogue.
-#[derive(Drop)]
 pub enum CatalogRecord {
     /// One more array, without versions.
     Create {
@@ -33,6 +32,25 @@ pub enum CatalogRecord {
         name: Name,
         below: u32,
     },
+}
+
+impl Drop for CatalogRecord {
+    fn drop(self) {
+        match self {
+            CatalogRecord::Create { name: _, schema: _ } => {}
+            CatalogRecord::First {
+                name: _,
+                schema: _,
+                directory: _,
+            } => {}
+            CatalogRecord::Next {
+                name: _,
+                directory: _,
+            } => {}
+            CatalogRecord::Remove { name: _ } => {}
+            CatalogRecord::RemoveVersions { name: _, below: _ } => {}
+        }
+    }
 }
 
 pub(crate) fn created_record(name: &Name, schema: &Schema) -> Result<CatalogRecord, Memory>

@@ -21,3 +21,6 @@ loop-index-preserved c = record {
 pub returns-clause-read : goal.returns-clause-read
 returns-clause-read c = all_read (next_version c.args.next) number_in c.loop-index.last (versions_at c.loop-index.numbers c.loop-index.directories) c.args.count c.loop-index._index c.loop-index.rest.now
     (repeat (next_version c.args.next) number_in c.args.count 0 c.args.bytes.now) c.loop-index-test.false c.loop-index.invariant.read
+
+pub returns-clause-one_each : goal.returns-clause-one_each
+returns-clause-one_each c = c.loop-index.invariant.one_each

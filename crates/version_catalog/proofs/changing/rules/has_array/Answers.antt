@@ -1,6 +1,7 @@
-use Rattle.std.proofs.Common.{◌∙◌}
-use Rattle.version_catalog.proofs.Maps.{any_map}
+use Rattle.std.proofs.Common.{ap, ◌∙◌}
+use Rattle.std.specs.Option.{is_some}
+use Rattle.version_catalog.proofs.Maps.{same_some, found_any}
 use Rattle.version_catalog.proofs.changing.rules.has_array.Goals as goal
 
 pub returns : goal.returns
-returns c = c.any_array.ensures ∙ any_map c.args.name.now c.args.arrays.now
+returns c = c.is_some.ensures ∙ same_some _ c.array_named.result ∙ ap is_some c.array_named.ensures ∙ found_any c.args.name.now c.args.arrays.now
