@@ -6,6 +6,7 @@ pub mod CountingLengths
 pub mod CountingWorked
 pub mod Directories
 pub mod Drafts
+pub mod Firsts
 pub mod Fresh
 pub mod Held
 pub mod Kept

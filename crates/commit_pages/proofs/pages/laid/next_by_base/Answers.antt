@@ -1,0 +1,29 @@
+use Rattle.std.proofs.Common.{ℕ, List, [], ◌∷◌, ◌++◌, ap, ◌∙◌}
+use Rattle.file_meaning.specs.Changed.{after_change}
+use Rattle.page_file.specs.declared.commits.placed.Placed.{Placed}
+use Rattle.commit_pages.specs.declared.pages.laid.Next.{Next}
+use Rattle.commit_pages.specs.Commits.{chain_in, catalog_bytes}
+use Rattle.commit_pages.proofs.Results.{handed}
+use Rattle.commit_pages.proofs.pages.laid.next_by_base.Goals as goal
+
+pub next_of-requires-clause-names : goal.next_of-requires-clause-names
+next_of-requires-clause-names c = c.requires.names
+
+pub next_of-requires-clause-directory : goal.next_of-requires-clause-directory
+next_of-requires-clause-directory c = c.requires.directory
+
+pub based-requires-clause-names : goal.based-requires-clause-names
+based-requires-clause-names c = c.requires.names
+
+pub based-requires-clause-directory : goal.based-requires-clause-directory
+based-requires-clause-directory c = c.requires.directory
+
+pub returns-in-Ok : goal.returns-in-Ok
+returns-in-Ok c =
+    let bytes = catalog_bytes c.args.catalog.now c.args.change.now c.args.version.now.at in
+    let next : Placed → List ℕ → Next = λ chain pages. record { chain = chain; catalog = after_change c.args.catalog.now c.args.change.now c.args.version.now.at; pages = pages } in
+    let rest = c.in_ok-rest.rest.now in
+    handed c.next_of.result _ _
+    (ap (λ (chain : Placed). next chain c.in-Ok.all) c.in-Ok.ensures.chain
+    ∙ ap (next (chain_in rest bytes)) c.in-Ok.ensures.pages
+    ∙ ap (λ (rest : List ℕ). next (chain_in rest bytes) ((chain_in rest bytes).pages ++ c.args.log ∷ [])) c.in_ok-rest.ensures) c.next_of.ensures
