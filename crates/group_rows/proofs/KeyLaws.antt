@@ -1,18 +1,20 @@
 -- The groups of rows, row by row.
-use Rattle.std.proofs.Common.{◌≡◌, ℕ, ℤ, zero, suc, pos, negsuc, ◌+◌, ◌-◌, ◌/◌, ◌^◌, ◌<◌, ◌≤◌, ◌≤ℤ◌, ◌+ℤ◌, ◌-ℤ◌, unsigned_abs, min, List, [], ◌∷◌, ◌++◌, map, length, get_or, take, drop, append_assoc, length-append, true, ◌&&◌, sym, ap, ◌∙◌, subst, arith}
+use Rattle.std.proofs.Common.{◌≡◌, ℕ, ℤ, zero, suc, pos, negsuc, ◌+◌, ◌-◌, ◌/◌, ◌^◌, ◌<◌, ◌≤◌, ◌≤ℤ◌, ◌+ℤ◌, ◌-ℤ◌, unsigned_abs, min, List, [], ◌∷◌, ◌++◌, map, length, get_or, take, drop, append_assoc, length-append, true, ◌&&◌, refl, sym, ap, ◌∙◌, subst, arith}
 use Rattle.std.proofs.lemmas.List.{append-nil, take_all, take_more, take_rest, map-append, length-map, length-take-le}
-use Rattle.std.specs.Prelude.{slice_index_or, int_le}
+use Rattle.std.specs.Prelude.{slice_index_or, int_le, IsTrue}
+use Rattle.std.specs.List.{All}
 use Rattle.std.proofs.lemmas.Int.{ints}
 use Rattle.std.specs.Int.{w64, saturate_signed}
 use Rattle.arrayvec.specs.ArrayVec.{ArrayVec}
 use Rattle.cell_values.specs.declared.datum.Row.{Row}
 use Rattle.cell_values.specs.declared.schema.Dimension.{Dimension}
-use Rattle.array_rows.specs.Boxes.{is_between}
+use Rattle.array_rows.specs.Boxes.{bounds_of, is_between, is_inside}
 use Rattle.array_rows.specs.Rows.{Coordinate}
 use Rattle.array_geom.specs.Inner.Ranges.{IsNear, AreNear}
 use Rattle.array_geom.proofs.TestLaws.{and_parts, le_from_test}
+use Rattle.logical_plan.specs.BoxOps.{numbers_at}
 use Rattle.logical_plan.specs.Groups.{block}
-use Rattle.group_rows.specs.Inner.Keys.{block_at}
+use Rattle.group_rows.specs.Inner.Keys.{aggregate_sets, block_at}
 use Rattle.std.specs.Option.{SomeIff}
 use Rattle.std.proofs.Common.{Option, Result, unwrap_or}
 use Rattle.std.specs.Prelude.{IfOk}
@@ -20,7 +22,7 @@ use Rattle.cell_values.specs.declared.memory.Memory.{Memory}
 use Rattle.logical_plan.specs.declared.parts.Aggregate.{Aggregate}
 use Rattle.group_rows.specs.declared.rows.groups.Groups.{Groups}
 use Rattle.group_rows.specs.Grouped.{AreGroupsOf}
-use Rattle.group_rows.specs.Sets.{AreKeys, sets_by}
+use Rattle.group_rows.specs.Sets.{AreKeys, one_set, sets_by}
 
 in_limits : (z : ℤ) → negsuc (2 ^ 63 - 1) ≤ℤ z → z ≤ℤ pos (2 ^ 63 - 1) → saturate_signed w64 z ≡ z
 in_limits (pos n) low high = let few : n ≤ 2 ^ 63 - 1 = omega (arith, ints) in let same : min n (2 ^ 63 - 1) ≡ n = omega arith in ap pos same
@@ -76,6 +78,30 @@ pub keyed : (gs : List Aggregate) (group : Coordinate → Coordinate) (keys keys
 keyed gs group keys keys' rows rows' r e f k h =
     subst (λ (rs : List Row). IfOk r (λ part. AreGroupsOf gs (sets_by group rs) part.groups)) f
     (h group (subst (λ (ks : List (ArrayVec ℤ)). AreKeys group ks rows') (sym e) (subst (AreKeys group keys) (sym f) k)))
+
+-- the sets of cells by names, of which there are some
+pub named_sets : (dims : List ℕ) (rows : List Row) → 1 ≤ length dims → sets_by (numbers_at dims) rows ≡ aggregate_sets dims rows
+named_sets [] rows some = absurd (omega (arith, some))
+named_sets (d ∷ dims) rows some = refl
+
+-- all cells in one group at 0 where there are no names
+pub one_named : (gs : List Aggregate) (dims : List ℕ) (at : ArrayVec ℤ) (rows rows' : List Row) (r : Result Groups Memory) → length dims < 1 → at.items ≡ pos 0 ∷ [] → rows ≡ rows'
+    → IfOk r (λ part. AreGroupsOf gs (one_set at.items rows) part.groups) → IfOk r (λ part. AreGroupsOf gs (aggregate_sets dims rows') part.groups)
+one_named gs [] at rows rows' r none origin same h =
+    subst (λ (rs : List Row). IfOk r (λ part. AreGroupsOf gs (one_set (pos 0 ∷ []) rs) part.groups)) same
+    (subst (λ (c : Coordinate). IfOk r (λ part. AreGroupsOf gs (one_set c rows) part.groups)) origin h)
+one_named gs (d ∷ dims) at rows rows' r none origin same h = absurd (omega (arith, none))
+
+-- what holds of each row holds of one
+pub all_items : {A : Type 0} (P : A → Type 0) (rows items : List A) (i : ℕ) (row : A) → items ≡ rows → i < length items → row ≡ get_or items i row → All P rows → P row
+all_items P rows items i row same less is all =
+    subst P (sym is) (subst (λ (xs : List _). P (get_or xs i row)) (sym same) (all i row (subst (λ (xs : List _). i < length xs) same less)))
+
+-- each row has a block
+pub keyed_blocks : (dims dims' : List Dimension) (rows : List Row) → dims ≡ dims' → length dims ≤ 6 → AreNear dims → All (λ row. IsTrue (is_inside (bounds_of dims') row.at.items)) rows
+    → All (λ row. (length dims ≤ 6) × AreNear dims × IsTrue (is_inside (bounds_of dims) row.at.items)) rows
+keyed_blocks dims dims' rows same few near inside k row less =
+    (few, near, subst (λ (ds : List Dimension). IsTrue (is_inside (bounds_of ds) (slice_index_or rows k row).at.items)) (sym same) (inside k row less))
 
 -- the first block, and those behind it
 pub next_block : (dims : List Dimension) (sizes : List ℕ) (c out out' new : List ℤ) (d : Dimension) (b : ℤ) → 1 ≤ length dims → 1 ≤ length sizes → 1 ≤ length c → d ≡ slice_index_or dims 0 d

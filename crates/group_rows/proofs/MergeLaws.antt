@@ -1,5 +1,5 @@
 -- Groups of two parts, head by head.
-use Rattle.std.proofs.Common.{◌≡◌, ℕ, ◌+◌, ◌<◌, ◌≤◌, ◌↔◌, IsTrue, OnOk, IfOk, Result, Ok, Err, Bool, false, cond, List, [], ◌∷◌, ◌++◌, length, take, drop, Option, Some, None, refl, sym, ap, ◌∙◌, subst, append_assoc, arith}
+use Rattle.std.proofs.Common.{◌≡◌, ℕ, ◌+◌, ◌^◌, ◌<◌, ◌≤◌, ◌↔◌, IsTrue, OnOk, IfOk, Result, Ok, Err, Bool, false, cond, List, [], ◌∷◌, ◌++◌, length, take, drop, Option, Some, None, refl, sym, ap, ◌∙◌, subst, append_assoc, arith}
 use Rattle.std.proofs.lemmas.List.{append-nil}
 use Rattle.std.specs.Prelude.{slice_index_or}
 use Rattle.std.specs.Ordering.{is_eq}
@@ -134,6 +134,22 @@ head (y ∷ ys) x l e = ap (λ (z : Group). z ∷ ys) (sym e)
 pub same_place : (left right a b : List Group) (x y : Group) → left ≡ x ∷ a → right ≡ y ∷ b → row_major x.at.items y.at.items ≡ Equal → IsSamePlace left right
 same_place left right a b x y l r e =
     subst (λ (zs : List Group). IsSamePlace zs right) (sym l) (subst (IsSamePlace (x ∷ a)) (sym r) (row_major_exact x.at.items y.at.items e))
+
+-- ---- fewer groups are left
+
+pub left_fewer : (left right left' : List Group) → 0 < length left → left' ≡ drop 1 left → length left' + length right < length left + length right
+left_fewer [] right left' some e = absurd (omega arith)
+left_fewer (x ∷ left) right left' some e = let n = ap length e in omega (arith, n)
+
+pub right_fewer : (left right right' : List Group) → 0 < length right → right' ≡ drop 1 right → length left + length right' < length left + length right
+right_fewer left [] right' some e = absurd (omega arith)
+right_fewer left (y ∷ right) right' some e = let n = ap length e in omega (arith, n)
+
+pub both_fewer : (left right left' right' : List Group) (x y : Group) → left ≡ x ∷ left' → right ≡ y ∷ right' → length left' + length right' < length left + length right
+both_fewer left right left' right' x y l r = let n = ap length l in let m = ap length r in omega (arith, n, m)
+
+pub room_of_firsts : (left right left' right' : List Group) (x y : Group) → left ≡ x ∷ left' → right ≡ y ∷ right' → cells_in left + cells_in right < 2 ^ 63 → cells_of x.states + cells_of y.states < 2 ^ 63
+room_of_firsts left right left' right' x y l r room = let n = ap cells_in l in let m = ap cells_in r in omega (arith, n, m, room)
 
 pub on_ok : {X E : Type 0} {P Q : Type 0} (r : Result X E) → OnOk r P → (P → Q) → OnOk r Q
 on_ok (Ok x) p f = f p

@@ -1,7 +1,7 @@
 -- Groups of the cells at places of a grid.
 use Rattle.std.proofs.Common.{◌≡◌, ℕ, zero, suc, ◌+◌, ◌<◌, ◌≤◌, ℤ, pos, Bool, true, false, cond, List, [], ◌∷◌, ◌++◌, length, get_or, take, drop, None, refl, sym, ap, ◌∙◌, subst, arith}
 use Rattle.std.specs.Prelude.{IfOk, Result, Ok, Err}
-use Rattle.std.proofs.lemmas.List.{drop-map, length-drop, length-map, length-take-le, take-append-drop, take-map, take_more}
+use Rattle.std.proofs.lemmas.List.{append-nil, drop-map, length-drop, length-map, length-take-le, take-append-drop, take-map, take_more}
 use Rattle.std.proofs.lemmas.List.Elements.{filter-append}
 use Rattle.std.specs.BTreeMap.{BTreeMap}
 use Rattle.std.specs.List.{AllByRecursion}
@@ -62,6 +62,13 @@ all_back P xs n ys e a = subst (AllByRecursion P) (sym e) (all_dropped P n xs a)
 pub all_first : {A : Type 0} (P : A → Type 0) (xs : List A) (d : A) → 0 < length xs → P (get_or xs 0 d) → AllByRecursion P (take 1 xs)
 all_first P [] d l h = absurd (omega (arith, l))
 all_first P (x ∷ xs) d l h = (h, tt)
+
+-- what holds of the first ones up to the end holds of all
+pub all_first_taken : {A : Type 0} (P : A → Type 0) (xs : List A) (i n : ℕ) → n ≤ i → AllByRecursion P (take i xs) → AllByRecursion P (take n xs)
+all_first_taken P xs i zero less h = tt
+all_first_taken P [] i (suc n) less h = tt
+all_first_taken P (x ∷ xs) zero (suc n) less h = absurd (omega (arith, less))
+all_first_taken P (x ∷ xs) (suc i) (suc n) less h = (h.0, all_first_taken P xs i n (omega (arith, less)) h.1)
 
 all_pushed : {A : Type 0} (P : A → Type 0) (xs : List A) (x : A) → AllByRecursion P xs → P x → AllByRecursion P (xs ++ x ∷ [])
 all_pushed P [] x h p = (p, tt)
@@ -199,6 +206,12 @@ group_taken gs group at before run rows old new l e all takes rise keeps =
     subst (λ (zs : List Row). KeepsGroups gs (sets_by group (before ++ zs)) new) e
     (same_kept gs (sets_with at.items run (sets_by group before)) (sets_by group (before ++ run)) new (run_sets group at.items before run l all)
     (takes (sets_by group before) keeps (run_rises group at.items before run l all (subst (λ (zs : List Row). IsRising (before ++ zs)) (sym e) rise))))
+
+-- the groups after cells of which none is taken
+pub passed_over : (gs : List Aggregate) (group : Coordinate → Coordinate) (before rows : List Row) (groups : BTreeMap (ArrayVec ℤ) (List Summary)) → rows ≡ []
+    → KeepsGroups gs (sets_by group before) groups → KeepsGroups gs (sets_by group (before ++ rows)) groups
+passed_over gs group before rows groups none keeps =
+    subst (λ (zs : List Row). KeepsGroups gs (sets_by group zs) groups) (sym (ap (λ (zs : List Row). before ++ zs) none ∙ append-nil before)) keeps
 
 -- ---- answers
 

@@ -68,6 +68,20 @@ last_cells left right ss ts us all s t u el er ea h b =
     let d : cells_of all ≡ max (cells_of us) u.cells = ap cells_of ea ∙ cells_push us u in
     omega (arith, a, c, d, h, b)
 
+pub absurd_last : (left right ss : List Summary) (s : Summary) (P : Type 0) → left ≡ ss ++ s ∷ [] → right ≡ [] → length left ≡ length right → P
+absurd_last left right ss s P el er n =
+    let a = ap length el ∙ length-append ss (s ∷ []) in
+    let b = ap length er in
+    absurd (omega (arith, a, b, n))
+
+pub none_both : (left right left' : List Summary) → left ≡ [] → left' ≡ [] → AreBothOf left right left'
+none_both left [] left' el en n =
+    subst (λ (z : List Summary). AreBoth z [] left') (sym el) (subst (AreBoth [] []) (sym en) tt)
+none_both left (t ∷ right) left' el en n = let a = ap length el in absurd (omega (arith, a, n))
+
+pub no_cells : (states : List Summary) (n : ℕ) → states ≡ [] → cells_of states ≤ n
+no_cells states n none = let e = ap cells_of none in omega (arith, e)
+
 states_both : (gs : List Aggregate) (a b : List Row) (ss ts us : List Summary) → AreStatesOf gs a ss → AreStatesOf gs b ts → AreApart a b → AreBoth ss ts us → AreStatesOf gs (put_all a b) us
 states_both [] a b [] [] [] h k p m = tt
 states_both [] a b [] [] (u ∷ us) h k p m = absurd m

@@ -76,7 +76,7 @@ no_states (g ∷ gs) rows (s ∷ states) e h = absurd cc
 pub states_left_out : (gs : List Aggregate) (rows more : List Row) (states left : List Summary) → states ≡ [] → left ≡ [] → AreStatesOf gs rows states → AreStatesOf gs more left
 states_left_out gs rows more states left e f h = none_without more gs left (no_states gs rows states e h) f
 
-pub no_aggregate : (gs : List Aggregate) (rows more : List Row) (states left : List Summary) (s : Summary) → length gs < 1 → states ≡ left ++ s ∷ []
+pub no_aggregate : (gs : List Aggregate) (rows more : List Row) (states left : List Summary) (s : Summary) → length gs ≡ 0 → states ≡ left ++ s ∷ []
     → AreStatesOf gs rows states → AreStatesOf gs more left
 no_aggregate (g ∷ gs) rows more states left s less e h = absurd (omega (arith, less))
 no_aggregate [] rows more [] left s less e h = absurd (omega (arith, ap length e, length-append left (s ∷ [])))
@@ -87,12 +87,6 @@ pub states_more : (rows more : List Row) (gs before : List Aggregate) (g : Aggre
 states_more rows more gs before g states left new taken s t eg es en each last h =
     let parts = zip_last (λ h state. StandsFor h rows state) before left g s (subst (λ (hs : List Aggregate). AreStatesOf hs rows (left ++ s ∷ [])) eg (subst (AreStatesOf gs rows) es h)) in
     subst (λ (hs : List Aggregate). AreStatesOf hs more new) (sym eg) (subst (AreStatesOf (before ++ g ∷ []) more) (sym en) (zip_push (λ h state. StandsFor h more state) before taken g t (each parts.0) (last parts.1)))
-
-pub split_last : {A : Type 0} (n : ℕ) (xs : List A) (x : A) → n + 1 ≡ length xs → x ≡ get_or xs n x → xs ≡ take n xs ++ x ∷ []
-split_last n [] x l e = absurd (omega (arith, l))
-split_last zero (y ∷ []) x l e = ap (λ z. z ∷ []) (sym e)
-split_last zero (y ∷ z ∷ xs) x l e = absurd (omega (arith, l))
-split_last (suc n) (y ∷ xs) x l e = ap (λ rest. y ∷ rest) (split_last n xs x (omega (arith, l)) e)
 
 pub cells_more : (n : ℕ) (states left new taken : List Summary) (s t : Summary) → states ≡ left ++ s ∷ [] → new ≡ taken ++ t ∷ [] → cells_of taken ≤ cells_of left + n → t.cells ≡ s.cells + n → cells_of new ≤ cells_of states + n
 cells_more n states left new taken s t es en l e =

@@ -48,6 +48,9 @@ pub last_told : (all states : List Summary) (state : Summary) (told values : Lis
 last_told all states state told values value e f h t =
     subst (λ (zs : List Summary). AllZip IsTold zs values) (sym e) (subst (AllZip IsTold (states ++ state ∷ [])) (sym f) (zip_push IsTold states told state value h t))
 
+pub none_told : (states : List Summary) (values : List Datum) → states ≡ [] → values ≡ [] → AllZip IsTold states values
+none_told states values e f = subst (λ (ss : List Summary). AllZip IsTold ss values) (sym e) (subst (AllZip IsTold []) (sym f) tt)
+
 -- with the rows of the groups that are left these are the rows of all groups
 abbrev pub IsOnTheWay : List Group → List Row → List Group → Type 0
 IsOnTheWay all rows left = (rest : List Row) → AllZip IsRowOf left rest → AllZip IsRowOf all (rows ++ rest)

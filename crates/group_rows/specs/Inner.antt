@@ -3,3 +3,4 @@ pub mod Keys
 pub mod Merged
 pub mod Merging
 pub mod Places
+pub mod Runs

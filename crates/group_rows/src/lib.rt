@@ -5,6 +5,7 @@ mod cores;
 mod grouping;
 mod places;
 mod rows;
+mod runs;
 mod told;
 
 pub use cores::rows_of_cores;

@@ -2,6 +2,6 @@
 
 mod runs;
 mod states;
-mod tree;
 
 pub use runs::groups_of_places;
+pub(crate) use states::with_column;

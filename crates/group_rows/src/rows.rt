@@ -13,6 +13,6 @@ pub(crate) use forming::is_at;
 pub use forming::{groups_of, one_group};
 pub use groups::{Group, Groups};
 pub use merging::merge_two;
-pub(crate) use states::no_states;
+pub(crate) use states::{no_states, with_cells};
 pub use tree::{groups_in, take_rows};
 pub use united::merge_all;

@@ -1,14 +1,12 @@
 //! The blocks of cells.
-ghost use Rattle.std.specs.Prelude.{◌≡◌, ◌+◌, ◌≤◌, ◌++◌, ◌≤ℤ◌, map, length, IsTrue, IfOk};
+ghost use Rattle.std.specs.Prelude.{◌≡◌, ◌+◌, ◌≤◌, ◌++◌, ◌≤ℤ◌, map, length, IsTrue};
 ghost use Rattle.std.specs.Int.{w64, saturate_signed};
-ghost use Rattle.std.specs.List.{All};
 ghost use Rattle.array_geom.specs.Inner.Ranges.{IsNear, AreNear};
 ghost use Rattle.array_rows.specs.Boxes.{is_between, is_inside, bounds_of};
 ghost use Rattle.logical_plan.specs.Groups.{block};
-ghost use Rattle.group_rows.specs.Sets.{AreKeys};
 ghost use Rattle.group_rows.specs.Inner.Keys.{block_at};
 
-use cell_values::{Coord, Dimension, List, Memory, Row};
+use cell_values::{Coord, Dimension};
 
 /// The block of a number along a dimension, as far as 64 bits go.
 fn clamped_block(low: i64, size: u64, number: i64) -> i64
@@ -58,22 +56,4 @@ pub(crate) fn block_key(dims: &[Dimension], sizes: &[u64], at: &Coord) -> Coord
     let mut key = Coord::new();
     push_blocks(&mut key, dims, sizes, at.as_slice());
     key
-}
-
-/// The block of each row.
-pub(crate) fn block_keys(
-    dims: &[Dimension],
-    sizes: &[u64],
-    rows: &List<Row>,
-) -> Result<List<Coord>, Memory>
-    requires few { length dims.now ≤ 6 }
-    requires near { AreNear dims.now }
-    requires inside { All (λ row. IsTrue (is_inside (bounds_of dims.now) row.at.items)) rows.now }
-    ensures { IfOk result (λ keys. AreKeys (block_at dims.now sizes.now) keys rows.now) }
-{
-    let mut keys = List::with_capacity(rows.allocator(), rows.len())?;
-    for row in rows.as_slice() {
-        keys.push(block_key(dims, sizes, &row.at))?;
-    }
-    Ok(keys)
 }

@@ -7,12 +7,26 @@ ghost use Rattle.array_rows.specs.Rows.{IsRising};
 ghost use Rattle.group_rows.specs.Counts.{cells_in};
 ghost use Rattle.group_rows.specs.Grouped.{AreGroupsOf};
 ghost use Rattle.group_rows.specs.Inner.Keys.{aggregate_sets, regrid_sets};
+ghost use Rattle.group_rows.specs.Inner.Places.{HasKey, key_of};
+ghost use Rattle.group_rows.specs.Sets.{sets_by};
 
-use crate::grouping::blocks::block_keys;
-use crate::grouping::named::{named_keys, zero};
+use crate::grouping::keys::{Grouping, keys_of};
+use crate::grouping::named::zero;
 use crate::rows::{Groups, groups_of, one_group};
 use cell_values::{List, Memory, Row, Schema};
 use logical_plan::Aggregate;
+
+/// The groups of cells by how they are grouped.
+fn grouped(rows: &List<Row>, aggs: &[Aggregate], grouping: &Grouping<'_>) -> Result<Groups, Memory>
+    requires few { length rows.now < 2 ^ 63 }
+    requires rising { IsRising rows.now }
+    requires keyed { All (λ row. HasKey grouping.now row.at.items) rows.now }
+    ensures groups { IfOk result (λ part. AreGroupsOf aggs.now (sets_by (key_of grouping.now) rows.now) part.groups) }
+    ensures cells { IfOk result (λ part. cells_in part.groups ≤ length rows.now) }
+{
+    let keys = keys_of(grouping, rows)?;
+    groups_of(rows.allocator(), aggs, keys.as_slice(), rows.as_slice())
+}
 
 /// The groups of cells that agree in the named dimensions. Without names all are in one group at 0.
 pub fn aggregate_groups(
@@ -28,10 +42,7 @@ pub fn aggregate_groups(
 {
     match dims {
         [] => one_group(rows.allocator(), aggs, &zero(), rows.as_slice()),
-        [_, ..] => {
-            let keys = named_keys(dims, rows)?;
-            groups_of(rows.allocator(), aggs, keys.as_slice(), rows.as_slice())
-        }
+        [_, ..] => grouped(rows, aggs, &Grouping::Named(dims)),
     }
 }
 
@@ -49,6 +60,6 @@ pub fn regrid_groups(
     ensures groups { IfOk result (λ part. AreGroupsOf aggs.now (regrid_sets schema.now.dimensions blocks.now rows.now) part.groups) }
     ensures cells { IfOk result (λ part. cells_in part.groups ≤ length rows.now) }
 {
-    let keys = block_keys(schema.dimensions.as_slice(), blocks, rows)?;
-    groups_of(rows.allocator(), aggs, keys.as_slice(), rows.as_slice())
+    let dims = schema.dimensions.as_slice();
+    grouped(rows, aggs, &Grouping::Blocks(dims, blocks))
 }

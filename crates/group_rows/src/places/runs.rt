@@ -14,8 +14,8 @@ ghost use Rattle.group_rows.specs.Sets.{sets_by};
 ghost use Rattle.group_rows.specs.Taken.{KeepsGroups, cells_kept};
 
 use crate::grouping::{Grouping, key_at};
-use crate::places::tree::take_places;
 use crate::rows::{Groups, groups_in, is_at};
+use crate::runs::{CellRun, take_cells};
 use agg_states::AggState;
 use array_geom::Grid;
 use array_rows::Cells;
@@ -87,7 +87,8 @@ fn take_group(
     let key = key_at(grouping, &grid.place(positions[0]));
     let count = run_length(grouping, &key, grid, positions, marks);
     let (run, _) = positions.split_at(count);
-    take_places(groups, alloc, aggregates, &key, grid, run, cells, from)?;
+    let run = CellRun::Places(grid, run, cells, from);
+    take_cells(groups, alloc, aggregates, &key, &run)?;
     Ok(count)
 }
 

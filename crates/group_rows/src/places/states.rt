@@ -8,15 +8,13 @@ ghost use Rattle.array_geom.specs.Inner.Ranges.{IsGrid};
 ghost use Rattle.logical_plan.specs.declared.parts.Aggregate.{Aggregate};
 ghost use Rattle.logical_plan.specs.Groups.{cells_of as cells_in_rows};
 ghost use Rattle.agg_states.specs.Stands.{StandsFor};
-ghost use Rattle.group_rows.specs.Counts.{cells_of};
-ghost use Rattle.group_rows.specs.Grouped.{AreStatesOf};
 ghost use Rattle.group_rows.specs.Inner.Columns.{HaveNumbers};
 ghost use Rattle.group_rows.specs.Inner.Places.{ArePlaces, place_of, rows_at};
 
 use agg_states::AggState;
 use array_geom::Grid;
 use array_rows::Cells;
-use cell_values::{List, Memory};
+use cell_values::Memory;
 use logical_plan::Aggregate;
 
 /// The state with further numbers.
@@ -100,7 +98,7 @@ fn run_of<'a>(numbers: &'a [i64], from: usize, count: usize) -> &'a [i64]
 }
 
 /// The state with further cells, from the numbers of their column where it is one of numbers.
-fn with_column(
+pub(crate) fn with_column(
     state: AggState,
     aggregate: &Aggregate,
     grid: &Grid,
@@ -121,38 +119,5 @@ fn with_column(
     match cells.numbers(aggregate.attribute as usize) {
         Some(numbers) => Ok(with_numbers(state, run_of(numbers, from, positions.len()))),
         None => with_each(state, aggregate, grid, positions, cells, from),
-    }
-}
-
-/// Each state with further cells.
-pub(crate) fn with_places(
-    states: List<AggState>,
-    aggregates: &[Aggregate],
-    grid: &Grid,
-    positions: &[u64],
-    cells: &Cells,
-    from: usize,
-) -> Result<List<AggState>, Memory>
-    requires grid { IsGrid grid.now }
-    requires inside { ArePlaces grid.now positions.now }
-    requires each { from + length positions.now ≤ length cells.now }
-    requires few { length cells.now < 2 ^ 63 }
-    requires room { cells_of states + length positions.now < 2 ^ 63 }
-    ensures states { IfOk result (λ more. (before : Items Row) → AreStatesOf aggregates.now before states
-        → IsRising (before ++ rows_at grid.now positions.now cells.now from)
-        → AreStatesOf aggregates.now (before ++ rows_at grid.now positions.now cells.now from) more) }
-    ensures cells { IfOk result (λ more. cells_of more ≤ cells_of states + length positions.now) }
-{
-    let mut states = states;
-    match states.pop() {
-        None => Ok(states),
-        Some(state) => match aggregates {
-            [] => Ok(states),
-            [before @ .., aggregate] => {
-                let mut more = with_places(states, before, grid, positions, cells, from)?;
-                more.push(with_column(state, aggregate, grid, positions, cells, from)?)?;
-                Ok(more)
-            }
-        },
     }
 }

@@ -14,10 +14,10 @@ ghost use Rattle.group_rows.specs.Grouped.{AreGroupsOf};
 ghost use Rattle.group_rows.specs.Inner.Columns.{AreStatesInside, HaveNumbers, StandsForInside, are_inside};
 ghost use Rattle.group_rows.specs.Sets.{one_set};
 
-use crate::rows::groups::{Group, Groups};
+use crate::rows::groups::{Groups, alone};
 use agg_states::AggState;
 use array_rows::Cells;
-use cell_values::{Coord, List, Memory, copy_coord};
+use cell_values::{Coord, List, Memory};
 use logical_plan::Aggregate;
 use std::alloc::Global;
 
@@ -95,16 +95,8 @@ pub fn one_of_columns(
     ensures cells { (area : Bounds) (rows : Items Row) → IsRising rows → cells_of rows ≡ cells.now → are_inside area rows ≡ inside.now
         → IfOk result (λ found. IfSome found (λ part. cells_in part.groups ≤ length (within area rows))) }
 {
-    let found = states_of_columns(alloc, aggregates, cells, inside)?;
-    match found {
+    match states_of_columns(alloc, aggregates, cells, inside)? {
         None => Ok(None),
-        Some(states) => {
-            let mut groups = List::new(alloc);
-            groups.push(Group {
-                at: copy_coord(at),
-                states,
-            })?;
-            Ok(Some(Groups { groups }))
-        }
+        Some(states) => Ok(Some(alone(alloc, at, states)?)),
     }
 }

@@ -8,11 +8,11 @@ ghost use Rattle.group_rows.specs.Grouped.{AreGroupsOf};
 ghost use Rattle.group_rows.specs.Sets.{one_set, sets_by, are_at, AreKeys};
 ghost use Rattle.group_rows.specs.Taken.{KeepsGroups, cells_kept};
 
-use crate::rows::groups::{Group, Groups};
+use crate::rows::groups::{Groups, alone};
 use crate::rows::states::states_of;
 use crate::rows::tree::{groups_in, take_rows};
 use agg_states::AggState;
-use cell_values::{Coord, List, Memory, Row, copy_coord, row_major};
+use cell_values::{Coord, List, Memory, Row, row_major};
 use logical_plan::Aggregate;
 use std::alloc::Global;
 use std::collections::BTreeMap;
@@ -30,12 +30,7 @@ pub fn one_group(
     ensures cells { IfOk result (λ groups. cells_in groups.groups ≤ length rows.now) }
 {
     let states = states_of(alloc, aggregates, rows)?;
-    let mut groups = List::new(alloc);
-    groups.push(Group {
-        at: copy_coord(at),
-        states,
-    })?;
-    Ok(Groups { groups })
+    alone(alloc, at, states)
 }
 
 /// Whether a coordinate is this one.

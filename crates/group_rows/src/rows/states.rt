@@ -6,6 +6,7 @@ ghost use Rattle.agg_states.specs.Stands.{StandsFor};
 ghost use Rattle.group_rows.specs.Counts.{cells_of};
 ghost use Rattle.group_rows.specs.Grouped.{AreStatesOf};
 
+use crate::runs::{CellRun, states_with};
 use agg_states::AggState;
 use cell_values::{List, Memory, Row};
 use logical_plan::Aggregate;
@@ -24,7 +25,11 @@ pub(crate) fn no_states(alloc: Global, aggregates: &[Aggregate]) -> Result<List<
 }
 
 /// The state with the cells of further rows.
-fn with_cells(state: AggState, aggregate: &Aggregate, rows: &[Row]) -> Result<AggState, Memory>
+pub(crate) fn with_cells(
+    state: AggState,
+    aggregate: &Aggregate,
+    rows: &[Row],
+) -> Result<AggState, Memory>
     requires room { state.cells + length rows.now < 2 ^ 63 }
     ensures stands { IfOk result (λ more. (before : Items Row) → StandsFor aggregate.now before state → IsRising (before ++ rows.now)
         → StandsFor aggregate.now (before ++ rows.now) more) }
@@ -35,31 +40,6 @@ fn with_cells(state: AggState, aggregate: &Aggregate, rows: &[Row]) -> Result<Ag
         state.take(&row.at, &row.cell, aggregate.attribute)?;
     }
     Ok(state)
-}
-
-/// Each state with the cells of further rows.
-pub(crate) fn with_rows(
-    states: List<AggState>,
-    aggregates: &[Aggregate],
-    rows: &[Row],
-) -> Result<List<AggState>, Memory>
-    requires room { cells_of states + length rows.now < 2 ^ 63 }
-    ensures states { IfOk result (λ more. (before : Items Row) → AreStatesOf aggregates.now before states → IsRising (before ++ rows.now)
-        → AreStatesOf aggregates.now (before ++ rows.now) more) }
-    ensures cells { IfOk result (λ more. cells_of more ≤ cells_of states + length rows.now) }
-{
-    let mut states = states;
-    match states.pop() {
-        None => Ok(states),
-        Some(state) => match aggregates {
-            [] => Ok(states),
-            [before @ .., aggregate] => {
-                let mut more = with_rows(states, before, rows)?;
-                more.push(with_cells(state, aggregate, rows)?)?;
-                Ok(more)
-            }
-        },
-    }
 }
 
 /// The state of each aggregate for all rows.
@@ -73,5 +53,9 @@ pub(crate) fn states_of(
     ensures states { IfOk result (AreStatesOf aggregates.now rows.now) }
     ensures cells { IfOk result (λ states. cells_of states ≤ length rows.now) }
 {
-    with_rows(no_states(alloc, aggregates)?, aggregates, rows)
+    states_with(
+        no_states(alloc, aggregates)?,
+        aggregates,
+        &CellRun::Rows(rows),
+    )
 }

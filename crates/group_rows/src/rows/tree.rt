@@ -8,9 +8,9 @@ ghost use Rattle.group_rows.specs.Sets.{Sets};
 ghost use Rattle.group_rows.specs.Taken.{KeepsGroups, cells_kept, rows_of, sets_with};
 
 use crate::rows::groups::{Group, Groups};
-use crate::rows::states::{no_states, with_rows};
+use crate::runs::{CellRun, take_cells};
 use agg_states::AggState;
-use cell_values::{Coord, List, Memory, Row, copy_coord};
+use cell_values::{Coord, List, Memory, Row};
 use logical_plan::Aggregate;
 use std::alloc::Global;
 use std::collections::BTreeMap;
@@ -28,17 +28,7 @@ pub fn take_rows(
         → KeepsGroups aggregates.now (sets_with at.now.items rows.now sets) groups.new) }
     ensures cells { OnOk result (cells_kept groups.new.entries ≤ cells_kept groups.old.entries + length rows.now) }
 {
-    match groups.get_mut(at) {
-        Some(states) => {
-            *states = with_rows(states.take(), aggregates, rows)?;
-            Ok(())
-        }
-        None => {
-            let states = with_rows(no_states(alloc, aggregates)?, aggregates, rows)?;
-            groups.insert(copy_coord(at), states)?;
-            Ok(())
-        }
-    }
+    take_cells(groups, alloc, aggregates, at, &CellRun::Rows(rows))
 }
 
 /// The groups of all coordinates, in row-major order.

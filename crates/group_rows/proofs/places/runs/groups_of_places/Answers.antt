@@ -1,4 +1,4 @@
-use Rattle.std.proofs.Common.{◌≡◌, ◌<◌, ℕ, List, length, take, drop, ap, ◌∙◌, subst, arith, length-drop}
+use Rattle.std.proofs.Common.{◌≡◌, ◌<◌, ◌∙◌, ◌-◌, ℕ, List, length, take, drop, ap, subst, arith, length-drop, sym}
 use Rattle.std.proofs.lemmas.List.{take_all}
 use Rattle.cell_values.specs.declared.datum.Row.{Row}
 use Rattle.array_rows.specs.Boxes.{within}
@@ -6,9 +6,10 @@ use Rattle.array_geom.specs.Geometry.{volume}
 use Rattle.array_geom.specs.Link.{rows_in}
 use Rattle.group_rows.specs.Inner.Places.{HasKey, key_of, place_of, rows_at}
 use Rattle.group_rows.specs.Sets.{sets_by}
-use Rattle.group_rows.specs.Taken.{KeepsGroups}
+use Rattle.group_rows.specs.Taken.{KeepsGroups, cells_kept}
 use Rattle.group_rows.proofs.MergeLaws.{if_ok}
 use Rattle.group_rows.proofs.PlaceLaws.{all_back, further, further_length, further_rises, length_rows, marks_left, rows_dropped}
+use Rattle.group_rows.proofs.TakenLaws.{none_kept}
 use Rattle.group_rows.proofs.places.runs.groups_of_places.Goals as goal
 
 pub taking-preserved : goal.taking-preserved
@@ -68,3 +69,29 @@ pub take_next-requires-clause-keyed : goal.take_next-requires-clause-keyed
 take_next-requires-clause-keyed c =
     all_back (λ (p : ℕ). HasKey c.args.grouping.now (place_of c.args.grid.now p)) c.args.positions.now c.taking.taken c.split_at.result.1.now
     c.split_at.ensures.back c.requires.keyed
+
+pub returns-clause-cells : goal.returns-clause-cells
+returns-clause-cells c = λ area inside.
+    let grid = c.args.grid.now in
+    let rows : List Row = rows_at grid c.args.positions.now c.args.cells.now 0 in
+    let over = c.taking-test.false in
+    let count = length_rows grid.low.items grid.lengths.items c.args.positions.now c.args.cells.now (omega (arith, c.requires.cells)) in
+    let whole = ap (λ (zs : List Row). length (within area zs)) (take_all c.taking.taken rows (omega (arith, over, count))) in
+    let kept = c.taking.invariant.cells area inside in
+    if_ok c.groups_in.result c.groups_in.ensures.cells (λ made same. omega (arith, whole, kept, same))
+
+pub taking-init : goal.taking-init
+taking-init c =
+    let empty = c.new-groups.ensures.empty in
+    let none = ap cells_kept empty in
+    record {
+      within_places = omega arith;
+      states = λ area inside. none_kept c.args.aggregates.now (key_of c.args.grouping.now) c.new-groups.result empty;
+      cells = λ area inside. omega (arith, none);
+      few = omega (arith, none);
+    }
+
+pub take_next-requires-clause-each : goal.take_next-requires-clause-each
+take_next-requires-clause-each c =
+    ap length c.split_at-in-taking.ensures.back ∙ length-drop c.taking.taken c.args.marks.now ∙ ap (λ (n : ℕ). n - c.taking.taken) c.requires.each
+    ∙ sym (ap length c.split_at.ensures.back ∙ length-drop c.taking.taken c.args.positions.now)

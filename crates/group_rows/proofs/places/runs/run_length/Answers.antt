@@ -1,9 +1,9 @@
-use Rattle.std.proofs.Common.{◌≡◌, ◌∙◌, ◌<◌, ℕ, Bool, true, false, ap, get_or, sym, arith}
+use Rattle.std.proofs.Common.{◌≡◌, ◌∙◌, ◌<◌, ℕ, Bool, true, false, ap, get_or, sym, arith, length, subst}
 use Rattle.std.specs.Ordering.{is_eq}
 use Rattle.array_rows.specs.Rows.{row_major}
 use Rattle.array_geom.specs.Geometry.{volume}
-use Rattle.group_rows.specs.Inner.Places.{key_of, place_of}
-use Rattle.group_rows.proofs.PlaceLaws.{all_at, all_further, same_key}
+use Rattle.group_rows.specs.Inner.Places.{key_of, place_of, HasKey}
+use Rattle.group_rows.proofs.PlaceLaws.{all_at, all_further, same_key, all_first_taken}
 use Rattle.group_rows.proofs.places.runs.run_length.Goals as goal
 
 pub loop-count-preserved : goal.loop-count-preserved
@@ -27,3 +27,30 @@ loop-count-preserved c =
 pub place-requires-clause-inside : goal.place-requires-clause-inside
 place-requires-clause-inside c =
     all_at (λ (p : ℕ). p < volume c.args.grid.now.lengths.items) c.args.positions.now c.loop-count.count 0 c.loop-count-test.true c.requires.inside
+
+pub key_at-requires : goal.key_at-requires
+key_at-requires c =
+    let grid = c.args.grid.now in
+    subst (HasKey c.args.grouping.now) (sym c.place.ensures)
+    (all_at (λ (p : ℕ). HasKey c.args.grouping.now (place_of grid p)) c.args.positions.now c.loop-count.count 0 c.loop-count-test.true c.requires.keyed)
+
+pub returns-clause-same : goal.returns-clause-same
+returns-clause-same c =
+    all_first_taken (λ (p : ℕ). key_of c.args.grouping.now (place_of c.args.grid.now p) ≡ c.args.at.now.items) c.args.positions.now c.loop-count.count (length c.args.positions.now)
+    c.loop-count-test.false c.loop-count.invariant.same
+
+pub returns-then-not-is_at-clause-same : goal.returns-then-not-is_at-clause-same
+returns-then-not-is_at-clause-same c = c.loop-count.invariant.same
+
+pub returns-then-not-is_at-clause-marked : goal.returns-then-not-is_at-clause-marked
+returns-then-not-is_at-clause-marked c = c.loop-count.invariant.marked
+
+pub returns-clause-marked : goal.returns-clause-marked
+returns-clause-marked c =
+    let over = c.loop-count-test.false in
+    all_first_taken (λ (b : Bool). b ≡ true) c.args.marks.now c.loop-count.count (length c.args.positions.now) (omega (arith, over, c.requires.each)) c.loop-count.invariant.marked
+
+pub returns-then-not-is_at-clause-within : goal.returns-then-not-is_at-clause-within
+returns-then-not-is_at-clause-within c =
+    let less = c.loop-count-test.true in
+    omega (arith, less)

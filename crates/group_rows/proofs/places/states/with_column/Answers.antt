@@ -1,9 +1,9 @@
-use Rattle.std.proofs.Common.{◌+◌, ◌≤◌, ◌∙◌, ℕ, ℤ, List, length, drop, subst, sym, ap, arith, length-drop}
-use Rattle.group_rows.proofs.ColumnLaws.{as_many_numbers}
-use Rattle.group_rows.proofs.PlaceLaws.{run_long, run_numbers}
+use Rattle.std.proofs.Common.{◌+◌, ◌≤◌, ◌∙◌, ◌<◌, ◌^◌, ℕ, ℤ, List, length, drop, subst, sym, ap, arith, length-drop}
+use Rattle.logical_plan.specs.Groups.{cells_of}
 use Rattle.group_rows.specs.Inner.Columns.{HaveNumbers}
 use Rattle.group_rows.specs.Inner.Places.{rows_at}
-use Rattle.logical_plan.specs.Groups.{cells_of}
+use Rattle.group_rows.proofs.ColumnLaws.{as_many_numbers}
+use Rattle.group_rows.proofs.PlaceLaws.{run_long, run_numbers}
 use Rattle.group_rows.proofs.places.states.with_column.Goals as goal
 
 pub run_of-requires : goal.run_of-requires
@@ -32,3 +32,11 @@ returns-in-Some-clause-cells c =
     let enough : c.args.from + count ≤ length numbers = omega (arith, same, c.requires.each) in
     c.with_numbers.ensures.cells
     ∙ ap (λ (n : ℕ). c.args.state.cells + n) (run_long numbers c.run_of.result.now c.args.from count c.run_of.ensures enough)
+
+pub with_numbers-requires : goal.with_numbers-requires
+with_numbers-requires c =
+    let numbers = c.in-Some.numbers.now in
+    let same = as_many_numbers c.args.aggregate.now.attribute numbers c.args.cells.now c.in-Some.ensures in
+    let count = length c.args.positions.now in
+    let enough : c.args.from + count ≤ length numbers = omega (arith, same, c.requires.each) in
+    record { room = subst (λ (n : ℕ). c.args.state.cells + n < 2 ^ 63) (sym (run_long numbers c.run_of.result.now c.args.from count c.run_of.ensures enough)) c.requires.room }

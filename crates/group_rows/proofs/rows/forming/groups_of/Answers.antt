@@ -1,13 +1,13 @@
-use Rattle.std.proofs.Common.{◌≡◌, ◌-◌, ◌++◌, List, length, take, drop, sym, ap, ◌∙◌, subst, arith, length-drop}
+use Rattle.std.proofs.Common.{◌≡◌, ◌-◌, ◌++◌, ◌∙◌, List, length, take, drop, sym, ap, subst, arith, length-drop, ℕ}
 use Rattle.std.proofs.lemmas.List.{take-append-drop, take_all}
 use Rattle.arrayvec.specs.ArrayVec.{ArrayVec}
 use Rattle.cell_values.specs.declared.datum.Row.{Row}
 use Rattle.array_rows.specs.Rows.{IsRising}
 use Rattle.group_rows.specs.Sets.{AreKeys, sets_by}
-use Rattle.group_rows.specs.Taken.{KeepsGroups}
+use Rattle.group_rows.specs.Taken.{KeepsGroups, cells_kept}
 use Rattle.group_rows.proofs.FormLaws.{keys_dropped}
 use Rattle.group_rows.proofs.MergeLaws.{if_ok}
-use Rattle.group_rows.proofs.TakenLaws.{taken_both}
+use Rattle.group_rows.proofs.TakenLaws.{taken_both, none_kept}
 use Rattle.group_rows.proofs.rows.forming.groups_of.Goals as goal
 
 pub taking-preserved : goal.taking-preserved
@@ -38,3 +38,19 @@ returns-clause-groups c = λ group are.
     if_ok c.groups_in.result c.groups_in.ensures.groups
     (λ made h. h c.args.aggregates.now (sets_by group rows)
     (subst (λ (zs : List Row). KeepsGroups c.args.aggregates.now (sets_by group zs) c.taking.groups) (take_all c.taking.taken rows (omega (arith, over, c.requires.each))) (c.taking.invariant.states group are)))
+
+pub taking-init : goal.taking-init
+taking-init c =
+    let none = ap cells_kept c.new-groups.ensures.empty in
+    record { within = omega arith; states = λ group are. none_kept c.args.aggregates.now group c.new-groups.result c.new-groups.ensures.empty; cells = omega (arith, none) }
+
+pub returns-clause-cells : goal.returns-clause-cells
+returns-clause-cells c =
+    let over = c.taking.invariant.within in
+    let kept = c.taking.invariant.cells in
+    if_ok c.groups_in.result c.groups_in.ensures.cells (λ made same. omega (arith, over, kept, same, c.requires.each))
+
+pub take_run-requires-clause-each : goal.take_run-requires-clause-each
+take_run-requires-clause-each c =
+    ap length c.split_at.ensures.back ∙ length-drop c.taking.taken c.args.keys.now ∙ ap (λ (n : ℕ). n - c.taking.taken) c.requires.each
+    ∙ sym (ap length c.split_at-in-taking.ensures.back ∙ length-drop c.taking.taken c.args.rows.now)

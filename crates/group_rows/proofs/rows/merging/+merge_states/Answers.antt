@@ -1,6 +1,7 @@
-use Rattle.std.proofs.Common.{◌≡◌, max, ap, ◌∙◌, arith, length, length-append, [], ◌∷◌}
+use Rattle.std.proofs.Common.{◌≡◌, ◌∙◌, ◌∷◌, ◌+◌, max, ap, arith, length, length-append, []}
 use Rattle.group_rows.specs.Counts.{cells_of}
-use Rattle.group_rows.proofs.StateLaws.{cells_push, last_both, last_cells}
+use Rattle.group_rows.specs.Inner.Merged.{AreBoth}
+use Rattle.group_rows.proofs.StateLaws.{cells_push, last_both, last_cells, absurd_last, no_cells, none_both}
 use Rattle.group_rows.proofs.rows.merging.+merge_states.Goals as goal
 
 pub merge_states-requires : goal.merge_states-requires
@@ -25,3 +26,16 @@ pub returns-in_ok-push-in-Some-pop-clause-cells : goal.returns-in_ok-push-in-Som
 returns-in_ok-push-in-Some-pop-clause-cells t c =
     last_cells c.args.left c.args.right c.pop.new.self c.pop-in-Some.new.self c.in_ok-states-in-Some-pop.states c.push.new.self c.in-Some.state c.in-Some-pop.other c.merge-united.result
     c.in-Some.ensures c.in-Some-pop.ensures c.in_ok-push-in-Some-pop.ensures.ok c.in_ok-states-in-Some-pop.ensures.cells c.merge-united.ensures.cells
+
+pub returns-in-None-pop-clause-states : goal.returns-in-None-pop-clause-states
+returns-in-None-pop-clause-states t c =
+    absurd_last c.args.left c.args.right c.pop.new.self c.in-Some.state (AreBoth c.args.left c.args.right c.pop-in-Some.new.self) c.in-Some.ensures c.in-None-pop.ensures.0
+
+pub returns-in-None-pop-clause-cells : goal.returns-in-None-pop-clause-cells
+returns-in-None-pop-clause-cells t c = no_cells c.pop-in-Some.new.self (cells_of c.args.left + cells_of c.args.right) c.in-None-pop.ensures.1
+
+pub returns-in-None-clause-states : goal.returns-in-None-clause-states
+returns-in-None-clause-states t c = none_both c.args.left c.args.right c.pop.new.self c.in-None.ensures.0 c.in-None.ensures.1
+
+pub returns-in-None-clause-cells : goal.returns-in-None-clause-cells
+returns-in-None-clause-cells t c = no_cells c.pop.new.self (cells_of c.args.left + cells_of c.args.right) c.in-None.ensures.1

@@ -1,5 +1,5 @@
 use Rattle.std.proofs.Common.{drop, sym}
-use Rattle.group_rows.proofs.MergeLaws.{on_ok, head, same_place, left_moves, right_moves, cells_left, cells_right}
+use Rattle.group_rows.proofs.MergeLaws.{on_ok, head, same_place, left_moves, right_moves, cells_left, cells_right, left_fewer, ok_now, right_fewer}
 use Rattle.group_rows.proofs.rows.merging.move_next.Goals as goal
 
 pub move_both-requires-clause-same : goal.move_both-requires-clause-same
@@ -31,3 +31,9 @@ pub returns-in-Greater-clause-cells : goal.returns-in-Greater-clause-cells
 returns-in-Greater-clause-cells c =
     on_ok c.move_first-in-Greater.result c.move_first-in-Greater.ensures.merged
     (λ m. cells_right c.args.merged.now c.move_first-in-Greater.new.merged c.args.left.now.items c.args.right.now.items c.move_first-in-Greater.new.groups.items m c.move_first-in-Greater.ensures.left)
+
+pub returns-in-Greater-clause-fewer : goal.returns-in-Greater-clause-fewer
+returns-in-Greater-clause-fewer c = ok_now c.move_first-in-Greater.result (right_fewer c.args.left.now.items c.args.right.now.items _ c.requires.right c.move_first-in-Greater.ensures.left)
+
+pub returns-in-Less-clause-fewer : goal.returns-in-Less-clause-fewer
+returns-in-Less-clause-fewer c = ok_now c.move_first.result (left_fewer c.args.left.now.items c.args.right.now.items _ c.requires.left c.move_first.ensures.left)
