@@ -3,6 +3,7 @@ pub mod ChunkLaws
 mod ChunksWorked
 pub mod Counted
 pub mod Counting
+pub mod Kept
 pub mod Reach
 pub mod Rows
 pub mod Serves

@@ -12,8 +12,9 @@ use Rattle.cell_values.specs.declared.schema.Attribute.{Attribute}
 use Rattle.cell_values.specs.declared.schema.Schema.{Schema}
 use Rattle.cell_values.specs.Cells.{AreOfKinds, IsCellOf}
 use Rattle.cell_values.specs.Schemas.{IsValid}
+use Rattle.array_rows.specs.Arrays.{AreRowsOf}
 use Rattle.array_geom.specs.declared.chunk.ChunkedArray.{ChunkedArray}
-use Rattle.array_geom.specs.Link.{Is}
+use Rattle.array_geom.specs.Link.{HoldsResult, Is}
 use Rattle.array_parts.specs.Cores.{HaveCells, cores_of}
 use Rattle.array_parts.proofs.CoreLaws.{arrays_are_their_cores, cores_are_rows}
 use Rattle.chunk_cells.specs.Fitted.{HasValues}
@@ -25,6 +26,7 @@ use Rattle.logical_plan.specs.PlanSchema.{schema_of}
 use Rattle.logical_plan.specs.Query.{Query}
 use Rattle.logical_plan.specs.Typing.{same_bounds}
 use Rattle.plan_changes.specs.Databases.{Database, fitted, rows_of}
+use Rattle.plan_changes.specs.Kept.{MeansArray}
 use Rattle.plan_changes.specs.Typed.{FitsInto, same_kinds}
 use Rattle.plan_changes.proofs.FitLaws.{bounds_alike, fit_array, fit_sound, kinds_alike}
 use Rattle.chunk_source.specs.Source.{SourceState}
@@ -64,6 +66,17 @@ can_fit schema array attributes rows cells takes a e =
     let have = have_values schema array.schema takes (cores_of array) are.kinds in
     subst (λ (rs : List Row). AllByRecursion (λ row. HasValues attributes row.cell) rs) (sym e)
     (subst (λ (z : List Attribute). AllByRecursion (λ row. HasValues z row.cell) (cores_of array)) (sym a) have)
+
+-- ---- what a plan means
+
+rows_held : (schema : Schema) (array : ChunkedArray) (rows : Result (List Row) Broken) → HoldsResult schema array rows → IfOk rows (AreRowsOf schema)
+rows_held schema array (Ok rows) holds = holds.rows_of
+rows_held schema array (Err broken) holds = tt
+
+-- where an array of its schema is what a plan means, it means an array
+pub means_array : (db : Database) (plan : Query) (array : ChunkedArray) → array.schema ≡ schema_of plan → Is array (meaning (rows_of db) plan) → MeansArray db plan
+means_array db plan array same is =
+    subst (λ (schema : Schema). IfOk (meaning (rows_of db) plan).rows (AreRowsOf schema)) (sym is.schema ∙ same) (rows_held (meaning (rows_of db) plan).schema array (meaning (rows_of db) plan).rows is.cells)
 
 -- ---- what is found
 

@@ -1,25 +1,35 @@
 -- The chunks that are written are those of the change, in a database that the source tells.
-use Rattle.std.proofs.Common.{◌≡◌, ℕ, zero, suc, ◌<◌, Bool, true, false, cond, nat_eq, List, [], ◌∷◌, map, Option, Some, None, Result, Ok, Err, refl, sym, ap, ◌∙◌, subst, arith}
+use Rattle.std.proofs.Common.{◌≡◌, ℕ, zero, suc, ◌<◌, ◌&&◌, Bool, true, false, cond, nat_eq, List, [], ◌∷◌, length, map, Option, Some, None, Result, Ok, Err, refl, sym, ap, ◌∙◌, subst, arith}
 use Rattle.std.specs.Prelude.{IfOk}
 use Rattle.std.specs.List.{AllByRecursion, find}
 use Rattle.std.specs.Option.{option_map}
 use Rattle.std.proofs.lemmas.Bool.Decides.{nat_tests}
 use Rattle.cell_values.specs.declared.datum.Broken.{Broken}
+use Rattle.cell_values.specs.declared.datum.Row.{Row}
 use Rattle.cell_values.specs.declared.schema.Schema.{Schema}
+use Rattle.array_rows.specs.Arrays.{AreRowsOf}
+use Rattle.array_rows.specs.Rows.{put_all}
 use Rattle.array_geom.specs.declared.chunk.Changed.{Changed}
+use Rattle.array_geom.specs.Geometry.{ChunkNumber, overlaps}
+use Rattle.array_geom.specs.Link.{IsPart, has_cell}
 use Rattle.logical_plan.specs.declared.parts.Leaf.{Leaf}
 use Rattle.logical_plan.specs.Meaning.{version_rows}
 use Rattle.logical_plan.specs.Query.{Query}
 use Rattle.plan_changes.specs.declared.change.Change.{Change}
 use Rattle.plan_changes.specs.declared.change.Change.TheVariants.{Store, Insert}
 use Rattle.plan_changes.specs.Changes.{is_named, newest_of, newest_or}
-use Rattle.plan_changes.specs.Databases.{Database, Stored, Version, entry_of, fitted, is_array, names_of, newest_in, newest_rows, rows_if_whole, rows_in, rows_of, rows_or}
+use Rattle.plan_changes.specs.Databases.{Database, Stored, Version, entry_of, fault_of_change, fitted, is_array, names_of, new_rows, newest_in, newest_rows, rows_if_whole, rows_in, rows_of, rows_or}
+use Rattle.plan_changes.specs.Kept.{MeansArray}
 use Rattle.plan_changes.specs.Stored.{IsDatabase, IsStored, RiseBetween}
 use Rattle.plan_changes.proofs.Found.{find_image}
 use Rattle.chunk_source.specs.Source.{SourceState}
 use Rattle.chunk_source.specs.declared.reading.fault.ExecFault.{ExecFault}
+use Rattle.commit_pages.specs.Changes.{IsChangeOf, is_written}
+use Rattle.commit_pages.specs.Lengths.{meets}
 use Rattle.changed_chunks.specs.declared.traces.asking.Asking.{Asking}
 use Rattle.changed_chunks.specs.Changing.{IsAnswerOver, IsToldOf}
+use Rattle.changed_chunks.specs.Inner.Input.{IsFound}
+use Rattle.changed_chunks.specs.Inner.Writes.{IsInsertOf, IsStoreOf, Writes}
 use Rattle.changed_chunks.specs.Targets.{IsTargetAsking, asking_put}
 
 -- ---- the newest version
@@ -98,3 +108,37 @@ inserts_counted source change target name schema plan asking (Ok (Ok changed)) e
     ∙ ap (asking_put schema.dimensions (rows_if_whole (fitted schema plan db))) (newest_told db name target is.database is.newest.0 is.newest.1))
 inserts_counted source change target name schema plan asking (Ok (Err broken)) e counted = tt
 inserts_counted source change target name schema plan asking (Err fault) e counted = tt
+
+-- ---- what is written of the rows that are found
+
+written_over : (db : Database) (change : Change) (schema : Schema) (whole : Bool) (rows : List Row) (chosen : ChunkNumber → Bool) (changed : Changed) → fault_of_change db change ≡ None
+    → Writes schema whole rows chosen changed → rows ≡ new_rows db change → ((k : ChunkNumber) → chosen k ≡ is_written db change k) → IsChangeOf db change changed
+written_over db change schema whole rows chosen changed none w same choice = record {
+  fault = none;
+  rows = subst (λ (z : Schema). AreRowsOf z (new_rows db change)) (sym w.is_of.0) (subst (AreRowsOf schema) same w.rows_of);
+  listed = λ k len. w.listed k (len ∙ ap (λ (z : Schema). length z.dimensions) w.is_of.0) ∙ choice k;
+  parts = subst (λ (z : Schema). AllByRecursion (IsPart z.dimensions (overlaps z.dimensions) (new_rows db change)) changed.chunks) (sym w.is_of.0)
+      (subst (λ (some : List Row). AllByRecursion (IsPart schema.dimensions (overlaps schema.dimensions) some) changed.chunks) same w.parts);
+}
+
+module _ (db : Database) (name : List ℕ) (schema : Schema) (plan : Query) (found : Result (List Row) Broken) (input : List Row) (changed : Changed)
+    (means : MeansArray db plan) (finds : IsFound (fitted schema plan db) found) (is : found ≡ Ok input) where
+  whole_found : IsFound (fitted schema plan db) (Ok input)
+  whole_found = subst (IsFound (fitted schema plan db)) is finds
+
+  same_input : input ≡ rows_if_whole (fitted schema plan db)
+  same_input = sym (ap rows_if_whole whole_found.0)
+
+  pub answers_store : (rows : List Row) → rows ≡ input → IsStoreOf schema rows changed → IsAnswerOver db (Store name schema plan) (Ok changed)
+  answers_store rows e w = record {
+    stores = means;
+    answer = written_over db (Store name schema plan) schema true rows (has_cell schema.dimensions rows) changed whole_found.1 w (e ∙ same_input)
+        (λ k. ap (λ (z : List Row). has_cell schema.dimensions z k) (e ∙ same_input));
+  }
+
+  pub answers_insert : (old : List Row) → old ≡ newest_rows db name → IsInsertOf schema input old changed → IsAnswerOver db (Insert name schema plan) (Ok changed)
+  answers_insert old newest w = record {
+    stores = means;
+    answer = written_over db (Insert name schema plan) schema false (put_all input old) (λ k. has_cell schema.dimensions (put_all input old) k && meets schema.dimensions input k) changed whole_found.1 w
+        (λ i. put_all (same_input i) (newest i)) (λ k. (λ i. has_cell schema.dimensions (put_all (same_input i) (newest i)) k && meets schema.dimensions (same_input i) k));
+  }

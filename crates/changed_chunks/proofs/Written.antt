@@ -225,6 +225,10 @@ module _ (put : ChunkedArray) (can : CanBeStored put) where
 
 -- ---- what is known of what is read
 
+-- what holds under the schema of a target and of the rows of an array holds under the schema and of the rows that are put
+pub put_there : (schema from : Schema) (input rows : List Row) (P : Schema → List Row → Type 0) → from ≡ schema → rows ≡ input → P from rows → P schema input
+put_there schema from input rows P f e p = subst (λ (z : Schema). P z input) f (subst (P from) e p)
+
 pub over_told : (put : ChunkedArray) (schema from : Schema) (input rows : List Row) (old : List Chunk) (changed : Changed) → put.schema ≡ schema → cores_of put ≡ input → from ≡ schema → MayBeStored schema input
     → AreStoredChunks from old → Serves from (cores_of put) rows (stored_rows from old) → IsInsertOf put.schema (cores_of put) (stored_rows put.schema old) changed → IsInsertOf schema input rows changed
 over_told put schema from input rows old changed s c f may are enough w =

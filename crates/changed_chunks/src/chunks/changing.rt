@@ -6,10 +6,13 @@ ghost use Rattle.chunk_source.specs.Source.{AsksFront, Keeps, Reads};
 ghost use Rattle.chunk_exec.specs.Computed.{asked_for_plan};
 ghost use Rattle.commit_pages.specs.Changes.{AreValid, ComesWith, IsOf};
 ghost use Rattle.logical_plan.specs.Meaning.{version_rows};
+ghost use Rattle.logical_plan.specs.Query.{Query};
 ghost use Rattle.plan_changes.specs.Databases.{Database, fitted, newest_rows, rows_if_whole, rows_of};
+ghost use Rattle.plan_changes.specs.Kept.{MeansArray};
 ghost use Rattle.plan_changes.specs.declared.change.Change.TheVariants.{Store, Insert};
 ghost use Rattle.changed_chunks.specs.Changing.{AsksOnly, CanChange, CanStore, IsAnswerOver, IsToldOf};
 ghost use Rattle.changed_chunks.specs.Changing.{asked_for, asked_of_all, asked_or_fault, asked_with};
+ghost use Rattle.changed_chunks.specs.Inner.Input.{IsFound, MayBeStored};
 ghost use Rattle.changed_chunks.specs.Targets.{IsTargetAsking, asking_over, asking_put};
 
 use crate::chunks::input::input_of;
@@ -18,13 +21,30 @@ use crate::chunks::versions::{all_of, stored_array};
 use crate::traces::Asking;
 use afl_outside::Gate;
 use array_geom::Changed;
-use cell_values::{Broken, Schema};
+use cell_values::{Broken, List, Memory, Row, Schema};
 use chunk_exec::ExecFault;
 use chunk_source::ChunkSource;
 use logical_plan::{Leaf, Plan};
 use plan_changes::Change;
 use std::alloc::Global;
 use std::thread::Threads;
+
+/// All chunks of the rows that are found, or their fault.
+fn stored_chunks(
+    schema: &Schema,
+    found: Result<List<Row>, Broken>,
+) -> Result<Result<Changed, Broken>, Memory>
+    requires { IfOk found (MayBeStored schema.now) }
+    ensures is_of { IfOk result (λ made. IfOk made (IsOf schema.now true)) }
+    ensures valid { IfOk result (λ made. IfOk made AreValid) }
+    ensures told { IfOk result (λ made. (db : Database) (name : Items ℕ) (plan : Query) → MeansArray db plan → IsFound (fitted schema.now plan db) found
+        → IsAnswerOver db (Store name schema.now plan) made) }
+{
+    match found {
+        Ok(input) => Ok(Ok(all_of(stored_array(schema, input)?))),
+        Err(broken) => Ok(Err(broken)),
+    }
+}
 
 /// The chunks that a store writes.
 fn stored<S: ChunkSource, R: Threads + Sync, G: Gate>(
@@ -50,10 +70,8 @@ fn stored<S: ChunkSource, R: Threads + Sync, G: Gate>(
     ensures cause { Answers (S.state source.old) (S.state source.new) result }
     ensures start { S.start source.new ≡ S.start source.old }
 {
-    match input_of(rt, alloc, plan, schema, source, workers, session, gate)? {
-        Ok(input) => Ok(Ok(all_of(stored_array(schema, input)?))),
-        Err(broken) => Ok(Err(broken)),
-    }
+    let found = input_of(rt, alloc, plan, schema, source, workers, session, gate)?;
+    Ok(stored_chunks(schema, found)?)
 }
 
 /// The chunks that an insert writes over its target. How many chunks of the target are asked for, and of how many, is put into `asking`.

@@ -92,6 +92,36 @@ fn read_wanted<S: ChunkSource>(
     read_chunks(source, number, leaf, wanted.as_slice())
 }
 
+/// The chunks that are written where the rows of an array are put over a target, which is read as the leaf of this number.
+fn put_over_leaf<S: ChunkSource>(
+    source: &mut S,
+    number: u32,
+    target: &Leaf,
+    put: &ChunkedArray,
+    asking: &mut Asking,
+) -> Result<Changed, ExecFault>
+    requires reads { Reads (S.state source.old) target.now }
+    requires put { CanBeStored put.now }
+    requires schema { put.now.schema ≡ target.now.schema }
+    ensures is_of { IfOk result (IsOf target.now.schema false) }
+    ensures valid { IfOk result AreValid }
+    ensures told { IfOk result (λ changed. (db : Database) → (S.state source.old).tells db
+        → IsInsertOf target.now.schema (cores_of put.now) (version_rows db target.now.name target.now.version) changed) }
+    ensures counted { IfOk result (λ changed. (db : Database) → (S.state source.old).tells db
+        → asking.new ≡ asking_put target.now.schema.dimensions (cores_of put.now) (version_rows db target.now.name target.now.version)) }
+    ensures over { IfOk result (λ changed. asking.new ≡ asking_over (S.state source.old) (cores_of put.now) target.now) }
+    ensures asked { let old = S.state source.old in OnOk result ((S.state source.new).asked
+        ≡ old.asked ++ map (asks number) (target_wanted target.now.schema.dimensions (cores_of put.now) (listed old target.now))) }
+    ensures front { let old = S.state source.old in OnErr result
+        (AsksFront (map (asks number) (target_wanted target.now.schema.dimensions (cores_of put.now) (listed old target.now))) old (S.state source.new)) }
+    ensures kept { Keeps (S.state source.old) (S.state source.new) }
+    ensures cause { Answers (S.state source.old) (S.state source.new) result }
+    ensures start { S.start source.new ≡ S.start source.old }
+{
+    let old = read_wanted(source, number, target, put, asking)?;
+    Ok(put_over(put, old)?)
+}
+
 /// The chunks that are written where rows are put over the target, which is one more leaf after those of the plan. How many chunks of
 /// the target are asked for, and of how many, is put into `asking`.
 pub(crate) fn put_over_target<S: ChunkSource>(
@@ -123,8 +153,7 @@ pub(crate) fn put_over_target<S: ChunkSource>(
     ensures cause { Answers (S.state source.old) (S.state source.new) result }
     ensures start { S.start source.new ≡ S.start source.old }
 {
-    let put = stored_array(schema, input)?;
     let number = count_leaves(alloc, plan)?;
-    let old = read_wanted(source, number, target, &put, asking)?;
-    Ok(put_over(&put, old)?)
+    let put = stored_array(schema, input)?;
+    put_over_leaf(source, number, target, &put, asking)
 }

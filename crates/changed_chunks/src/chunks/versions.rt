@@ -17,7 +17,6 @@ use cell_values::{Bounds, ChunkAt, List, Memory, Row, Schema, copy_numbers};
 use chunk_cells::{assemble, into_core_rows};
 
 /// The array of rows that may be stored.
-#[tactic(auto, using(array_geom::proofs::MarginLaws::overlap_each, array_geom::proofs::MarginLaws::overlap_places))]
 pub(crate) fn stored_array(schema: &Schema, rows: List<Row>) -> Result<ChunkedArray, Memory>
     requires { MayBeStored schema.now rows }
     ensures schema { IfOk result (λ array. array.schema ≡ schema.now) }

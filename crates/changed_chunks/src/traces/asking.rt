@@ -29,7 +29,13 @@ fn is_sized(schema: &Schema, at: &ChunkAt) -> bool
 pub fn count_chunks(schema: &Schema, chunks: &[ChunkAt]) -> u64
     ensures { result ≡ count_by (is_sized schema.now.dimensions) chunks.now }
 {
-    chunks.iter().filter(|at| is_sized(schema, *at)).count() as u64
+    let mut count = 0;
+    for at in chunks {
+        if is_sized(schema, at) {
+            count += 1;
+        }
+    }
+    count
 }
 
 /// How many of the listed chunks of a leaf have a core that meets a box, and how many there are. Numbers of another size are no chunk's.

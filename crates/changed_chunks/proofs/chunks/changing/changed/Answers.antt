@@ -1,3 +1,8 @@
+use Rattle.std.proofs.Common.{Some, subst, sym}
+use Rattle.std.specs.Prelude.{IfOk}
+use Rattle.plan_changes.specs.declared.change.Change.{Change}
+use Rattle.commit_pages.specs.Changes.{ComesWith}
+use Rattle.changed_chunks.specs.Changing.{CanChange}
 use Rattle.changed_chunks.proofs.Asked.{insert_asked, insert_front, insert_only, store_asked, store_front, store_only}
 use Rattle.changed_chunks.proofs.Told.{inserts_counted, inserts_told, stores_counted, stores_told}
 use Rattle.changed_chunks.proofs.chunks.changing.changed.Goals as goal
@@ -44,3 +49,20 @@ pub returns-in-Insert-clause-only : goal.returns-in-Insert-clause-only
 returns-in-Insert-clause-only g c =
     insert_only c.args.change.now c.args.target.now c.in-Insert.name c.in-Insert.schema c.in-Insert.plan (g.S.ChunkSource.state c.args.source.now) (g.S.ChunkSource.state c.inserted.new.source)
     c.inserted.new.asking c.inserted.result c.in-Insert.is c.inserted.ensures.only c.inserted.ensures.some
+
+pub returns-in-Store-clause-comes : goal.returns-in-Store-clause-comes
+returns-in-Store-clause-comes g c =
+    subst (λ (z : Change). IfOk c.stored.result (λ made. IfOk made (λ changed. ComesWith z (Some changed)))) (sym c.in-Store.is) c.stored.ensures.is_of
+
+pub stored-requires-clause-can : goal.stored-requires-clause-can
+stored-requires-clause-can g c κs within = subst (λ (z : Change). CanChange (g.S.ChunkSource.state c.args.source.now) z c.args.target.now) c.in-Store.is c.requires.can
+
+pub inserted-requires-clause-reads : goal.inserted-requires-clause-reads
+inserted-requires-clause-reads g c κs within = (subst (λ (z : Change). CanChange (g.S.ChunkSource.state c.args.source.now) z c.args.target.now) c.in-Insert.is c.requires.can).1
+
+pub inserted-requires-clause-can : goal.inserted-requires-clause-can
+inserted-requires-clause-can g c κs within = (subst (λ (z : Change). CanChange (g.S.ChunkSource.state c.args.source.now) z c.args.target.now) c.in-Insert.is c.requires.can).0
+
+pub returns-in-Insert-clause-comes : goal.returns-in-Insert-clause-comes
+returns-in-Insert-clause-comes g c =
+    subst (λ (z : Change). IfOk c.inserted.result (λ made. IfOk made (λ changed. ComesWith z (Some changed)))) (sym c.in-Insert.is) c.inserted.ensures.is_of

@@ -1,9 +1,9 @@
-use Rattle.std.proofs.Common.{ap, ◌∙◌, subst}
+use Rattle.std.proofs.Common.{◌∙◌, ap, subst}
 use Rattle.cell_values.specs.declared.schema.Schema.{Schema}
 use Rattle.cell_values.specs.Schemas.{IsValid}
 use Rattle.array_parts.specs.Cores.{cores_of}
 use Rattle.chunk_source.specs.Source.{listed}
-use Rattle.chunk_source.proofs.ReadLemmas.{asked_none, on_err}
+use Rattle.chunk_source.proofs.ReadLemmas.{asked_none, on_err, keeps_on, reads_still}
 use Rattle.chunk_source.proofs.ReadLaws.{wanted_among}
 use Rattle.changed_chunks.specs.Wanted.{is_wanted, target_wanted}
 use Rattle.changed_chunks.proofs.Asked.{asked_listed, front_listed}
@@ -68,3 +68,18 @@ returns-in_err-listed-clause-front g c = on_err _ _ (asked_none _ _ _ c.in_err-l
 
 pub returns-in_err-wanted-clause-front : goal.returns-in_err-wanted-clause-front
 returns-in_err-wanted-clause-front g c = on_err _ _ (asked_none _ _ _ c.in_ok-listed.ensures.asked)
+
+pub returns-clause-kept : goal.returns-clause-kept
+returns-clause-kept g c = keeps_on (g.S.ChunkSource.state c.args.source.now) (g.S.ChunkSource.state c.listed.new.self) (g.S.ChunkSource.state c.read_chunks.new.source) c.in_ok-listed.ensures.kept c.read_chunks.ensures.kept
+
+pub returns-clause-start : goal.returns-clause-start
+returns-clause-start g c = c.read_chunks.ensures.start ∙ c.in_ok-listed.ensures.start
+
+pub read_chunks-requires-clause-reads : goal.read_chunks-requires-clause-reads
+read_chunks-requires-clause-reads g c = reads_still (g.S.ChunkSource.state c.args.source.now) (g.S.ChunkSource.state c.listed.new.self) c.args.leaf.now c.in_ok-listed.ensures.kept c.requires.reads
+
+pub returns-in_err-wanted-clause-kept : goal.returns-in_err-wanted-clause-kept
+returns-in_err-wanted-clause-kept g c = c.in_ok-listed.ensures.kept
+
+pub returns-in_err-wanted-clause-start : goal.returns-in_err-wanted-clause-start
+returns-in_err-wanted-clause-start g c = c.in_ok-listed.ensures.start

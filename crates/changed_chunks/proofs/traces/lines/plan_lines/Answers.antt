@@ -1,9 +1,9 @@
-use Rattle.std.proofs.Common.{List, length, sym, ap, ◌∙◌, subst}
+use Rattle.std.proofs.Common.{◌∙◌, List, length, sym, ap, subst}
 use Rattle.std.specs.List.{AllByRecursion}
 use Rattle.cell_values.specs.Schemas.{IsValid}
 use Rattle.cell_values.specs.declared.schema.Bounds.{Bounds}
-use Rattle.chunk_source.specs.Source.{Reads}
 use Rattle.logical_plan.specs.declared.parts.Leaf.{Leaf}
+use Rattle.chunk_source.specs.Source.{Reads}
 use Rattle.chunk_source.proofs.SufficientLaws.{whole_needs}
 use Rattle.changed_chunks.proofs.Tracing.{over_alone, told_alone, valid_leaves}
 use Rattle.changed_chunks.proofs.traces.lines.plan_lines.Goals as goal
@@ -30,3 +30,24 @@ pub returns-clause-told : goal.returns-clause-told
 returns-clause-told g c =
     told_alone (g.S.ChunkSource.state c.args.source.now) c.args.plan.now c.as_slice.result.now c.as_slice-2.result.now _ _ c.new-lines.ensures
     (c.as_slice.ensures ∙ c.in_ok-leaves.ensures) (c.as_slice-2.ensures ∙ c.in_ok-boxes.ensures) c.in_ok-push_lines.ensures.lines
+
+pub returns-clause-kept : goal.returns-clause-kept
+returns-clause-kept g c = c.in_ok-push_lines.ensures.kept
+
+pub returns-in_err-push_lines-clause-start : goal.returns-in_err-push_lines-clause-start
+returns-in_err-push_lines-clause-start g c = c.in_err-push_lines.ensures.start
+
+pub returns-clause-asked : goal.returns-clause-asked
+returns-clause-asked g c = c.in_ok-push_lines.ensures.asked
+
+pub returns-in_err-push_lines-clause-kept : goal.returns-in_err-push_lines-clause-kept
+returns-in_err-push_lines-clause-kept g c = c.in_err-push_lines.ensures.kept
+
+pub returns-clause-cause : goal.returns-clause-cause
+returns-clause-cause g c = c.in_ok-push_lines.ensures.cause
+
+pub returns-in_err-push_lines-clause-asked : goal.returns-in_err-push_lines-clause-asked
+returns-in_err-push_lines-clause-asked g c = c.in_err-push_lines.ensures.asked
+
+pub returns-clause-start : goal.returns-clause-start
+returns-clause-start g c = c.in_ok-push_lines.ensures.start

@@ -1,4 +1,4 @@
-use Rattle.std.proofs.Common.{List, ℕ, ap, ◌∙◌}
+use Rattle.std.proofs.Common.{◌∙◌, List, ℕ, ap}
 use Rattle.arrayvec.specs.ArrayVec.{ArrayVec}
 use Rattle.array_geom.specs.Geometry.{core_meets}
 use Rattle.changed_chunks.specs.Listed.{chunks_among}
@@ -16,3 +16,27 @@ returns-clause-line g c =
     adds_one (g.S.ChunkSource.state c.args.source.now) leaf area c.args.lines.now c.write_line.new.out c.in_ok-asking.asking c.in_ok-write_line.ensures
     (asks ∙ ap (λ (z : List (ArrayVec ℕ)). asking_where (core_meets dims area) (chunks_among dims z)) c.in_ok-listed.ensures.listed)
     (λ db tells. asks ∙ told_asking db leaf c.in_ok-listed.listed area c.requires.valid c.in_ok-listed.ensures.rising (c.in_ok-listed.ensures.told db tells))
+
+pub returns-in_err-write_line-clause-kept : goal.returns-in_err-write_line-clause-kept
+returns-in_err-write_line-clause-kept g c = c.in_ok-listed.ensures.kept
+
+pub returns-in_err-asking-clause-kept : goal.returns-in_err-asking-clause-kept
+returns-in_err-asking-clause-kept g c = c.in_ok-listed.ensures.kept
+
+pub returns-clause-start : goal.returns-clause-start
+returns-clause-start g c = c.in_ok-listed.ensures.start
+
+pub returns-in_err-write_line-clause-start : goal.returns-in_err-write_line-clause-start
+returns-in_err-write_line-clause-start g c = c.in_ok-listed.ensures.start
+
+pub returns-in_err-asking-clause-start : goal.returns-in_err-asking-clause-start
+returns-in_err-asking-clause-start g c = c.in_ok-listed.ensures.start
+
+pub returns-in_err-write_line-clause-asked : goal.returns-in_err-write_line-clause-asked
+returns-in_err-write_line-clause-asked g c = c.in_ok-listed.ensures.asked
+
+pub returns-clause-kept : goal.returns-clause-kept
+returns-clause-kept g c = c.in_ok-listed.ensures.kept
+
+pub returns-clause-asked : goal.returns-clause-asked
+returns-clause-asked g c = c.in_ok-listed.ensures.asked

@@ -1,6 +1,7 @@
 use Rattle.std.proofs.Common.{◌∙◌, refl}
 use Rattle.cell_values.specs.Schemas.{IsValid}
 use Rattle.chunk_source.specs.Source.{Reads}
+use Rattle.chunk_source.proofs.ReadLemmas.{keeps_on}
 use Rattle.changed_chunks.proofs.Tracing.{all_read, all_traced, at_place, nothing_traced, traced_more}
 use Rattle.changed_chunks.proofs.traces.lines.push_lines.Goals as goal
 
@@ -34,3 +35,10 @@ pub returns-clause-lines : goal.returns-clause-lines
 returns-clause-lines g c =
     all_traced (g.S.ChunkSource.state c.args.source.now) (g.S.ChunkSource.state c.loop-place.source) c.args.leaves.now c.args.boxes.now c.loop-place.place c.args.lines.now c.loop-place.lines
     c.requires.each c.loop-place-test.false c.loop-place.invariant.0
+
+pub returns-in_err-push_line-clause-start : goal.returns-in_err-push_line-clause-start
+returns-in_err-push_line-clause-start g c = c.in_err-push_line.ensures.start ∙ c.loop-place.invariant.1
+
+pub returns-in_err-push_line-clause-kept : goal.returns-in_err-push_line-clause-kept
+returns-in_err-push_line-clause-kept g c =
+    keeps_on (g.S.ChunkSource.state c.args.source.now) (g.S.ChunkSource.state c.loop-place.source) (g.S.ChunkSource.state c.push_line.new.source) c.loop-place.invariant.0.kept c.in_err-push_line.ensures.kept
