@@ -100,3 +100,8 @@ pub none_owed : (o : Option (List ℕ)) (slots : Slots) (before : List ℕ → T
     → IfSome o (λ seen. IsSound slots seen before → (bytes : List ℕ) → ((d : List ℕ) → before d → HoldsChain page_size d pages bytes) → Unit {0})
 none_owed None slots before pages = tt
 none_owed (Some seen) slots before pages = λ sound bytes holds. tt
+
+-- nothing is owed of what was known
+pub none_known : (o : Option (List ℕ)) (slots : Slots) (before : List ℕ → Type 0) → IfSome o (λ seen. IsSound slots seen before → Unit {0})
+none_known None slots before = tt
+none_known (Some seen) slots before = λ sound. tt

@@ -1,14 +1,17 @@
 -- A page that was read.
-use Rattle.std.proofs.Common.{◌≡◌, ◌⊎◌, inr, ⊎_elim, ℕ, ◌+◌, ◌*◌, List, length, take, drop, slice_index, ◌==◌, Bool, false, IsTrue, MatchBool, Option, IfSome, sym, ◌∙◌, ap, subst, arith}
+use Rattle.std.proofs.Common.{◌≡◌, ◌⊎◌, inr, ⊎_elim, ℕ, ◌+◌, ◌*◌, List, length, take, drop, slice_index, ◌==◌, Bool, false, IsTrue, MatchBool, Option, None, Some, IfSome, refl, sym, ◌∙◌, ap, subst, arith}
 use Rattle.std.proofs.lemmas.List.{get_or-take, get_or-drop}
 use Rattle.std.proofs.lemmas.Bool.{cases_eq, false≢true}
 use Rattle.std.proofs.lemmas.Bool.Decides.{nat_tests}
-use Rattle.page_chain.proofs.Moments.{moment_at}
+use Rattle.page_chain.proofs.Moments.{moment_at, started}
+use Rattle.page_chain.proofs.RunLemmas.{stands}
 use Rattle.page_chain.specs.Counts.{Rose}
-use Rattle.page_chain.specs.Disk.{ReadsAt, DiskState}
+use Rattle.page_chain.specs.Disk.{ReadsAt, DiskGoesOn, DiskState}
 use Rattle.page_chain.specs.Puts.{OnlySyncs}
 use Rattle.page_chain.proofs.PutLemmas.{goes_twice, if_some}
-use Rattle.page_file.specs.OpeningOpened.{HasPage, CutsPage}
+use Rattle.page_chain.specs.declared.fault.OpenCause.{OpenCause}
+use Rattle.page_chain.specs.declared.fault.OpenCause.TheVariants.{Disk, NotDatabase, Memory}
+use Rattle.page_file.specs.OpeningOpened.{HasPage, CutsPage, HasCause, IsDeviceFault}
 
 pub page_whole : (number count : ℕ) (page seen : List ℕ) → length page ≡ 4096 → ReadsAt seen (number * 4096) count page → count ≡ 4096 → HasPage number page seen
 page_whole number count page seen size read is = record {
@@ -59,3 +62,30 @@ syncs_twice a b c past between since before mid now first then_ = record {
     earlier = λ t f le left. ⊎_elim (first.time.earlier t f le) (λ is. inr (first.crash f is)) (then_.time.earlier t f (omega (arith, le, first.time.later)) left);
   };
 }
+
+-- a run that does nothing writes nothing
+pub syncs_none : (s : DiskState) (past : ℕ → List ℕ → Type 0) (before : List ℕ → Type 0) → ((c : List ℕ) → past s.moment c → before c) → OnlySyncs (moment_at s past before) (moment_at s past before)
+syncs_none s past before only = record {
+  same = stands s;
+  seen = refl;
+  crash = λ c left. left;
+  time = started s.moment past before only;
+}
+
+-- nothing is said of what was read
+pub nothing_told : (o : Option (List ℕ)) → IfSome o (λ seen. Unit {0})
+nothing_told None = tt
+nothing_told (Some seen) = tt
+
+-- ---- why a call failed
+
+pub device_cause : (fault : OpenCause) (old new : DiskState) → IsDeviceFault fault old new → HasCause fault old new
+device_cause Disk old new is = is
+device_cause (NotDatabase page) old new is = tt
+device_cause Memory old new is = is
+
+-- what failed after another call has its cause since before that one
+pub cause_then : (fault : OpenCause) (a b c : DiskState) → DiskGoesOn a b → HasCause fault b c → HasCause fault a c
+cause_then Disk a b c same rose = omega (arith, same.later, rose)
+cause_then (NotDatabase page) a b c same rose = tt
+cause_then Memory a b c same rose = omega (arith, same.wants_later, rose)

@@ -21,7 +21,7 @@ use Rattle.page_chain.proofs.Opening.{may_open}
 use Rattle.page_chain.proofs.PutLemmas.{if_some, wider}
 use Rattle.page_chain.specs.Pages.{page_size, HoldsBlob}
 use Rattle.page_chain.specs.Standing.{IsZeroed}
-use Rattle.page_file.specs.Written.{MayWrite, unwritten, zeroed_by}
+use Rattle.page_file.specs.Written.{MayWrite, unwritten, zeroed_by, blob_written, pages_written}
 use Rattle.page_file.proofs.Zeros.{unwritten_holds, zeroed_holds}
 use Rattle.page_file.proofs.Emptied.{other_emptied, log_emptied, still_root, still_entry, root_unfilled, entry_unfilled}
 
@@ -110,3 +110,12 @@ blob_sound slots s z pages bytes old new past since before after is zero_is clos
     subst (λ (t : Slots). KeepsSound slots (record t { zeroed = z }) (seeing old before) (seeing new after)) (sym is)
     (writes_sound slots z pages old new past since before after (λ seen now. KeepsPages pages seen now × HoldsBlob page_size now pages bytes) closed may writes sees
     (λ seen now told. zero_on slots.target slots.zeroed z seen now (λ hold. subst (λ (y : Option ℕ). IfSome y (λ page. IsZeroed page now)) (sym z_is) (zeroed_holds pages bytes slots.zeroed seen now may.apart told.0 told.1 hold))))
+
+-- what the slots are once a blob or a chain was written
+pub blob_slots : (slots s : Slots) (z : Option ℕ) (pages bytes : List ℕ) → s ≡ emptied slots → z ≡ zeroed_by pages bytes s.zeroed → record s { zeroed = z } ≡ blob_written pages bytes slots
+blob_slots slots s z pages bytes is zeroed =
+    ap (λ (t : Slots). record t { zeroed = z }) is ∙ ap (λ (y : Option ℕ). record (emptied slots) { zeroed = y }) (zeroed ∙ ap (λ (t : Slots). zeroed_by pages bytes t.zeroed) is)
+
+pub pages_slots : (slots s : Slots) (z : Option ℕ) (pages : List ℕ) → s ≡ emptied slots → z ≡ unwritten pages s.zeroed → record s { zeroed = z } ≡ pages_written pages slots
+pages_slots slots s z pages is zeroed =
+    ap (λ (t : Slots). record t { zeroed = z }) is ∙ ap (λ (y : Option ℕ). record (emptied slots) { zeroed = y }) (zeroed ∙ ap (λ (t : Slots). unwritten pages t.zeroed) is)

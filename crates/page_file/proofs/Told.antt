@@ -1,5 +1,5 @@
 -- From a page that was read to the file.
-use Rattle.std.proofs.Common.{◌≡◌, ◌≢◌, ◌<◌, ◌≤◌, inl, inr, ℕ, ◌+◌, ◌*◌, List, length, slice_index, nat_le, ◌==◌, ◌&&◌, ◌||◌, if◌then◌else◌, Bool, true, false, MatchBool, Option, Some, None, IfSome, IfOk, Result, Ok, Err, refl, sym, ◌∙◌, ap, subst, arith}
+use Rattle.std.proofs.Common.{◌≡◌, ◌≢◌, ◌<◌, ◌≤◌, inl, inr, ⊎_elim, ℕ, ◌+◌, ◌*◌, List, length, slice_index, nat_le, ◌==◌, ◌&&◌, ◌||◌, if◌then◌else◌, Bool, true, false, MatchBool, Option, Some, None, IfSome, IfErr, IfOk, Result, Ok, Err, refl, sym, ◌∙◌, ap, subst, arith}
 use Rattle.std.proofs.lemmas.Bool.Decides.{nat_tests}
 use Rattle.page_chain.specs.Disk.{DiskState, Only}
 use Rattle.page_chain.specs.Places.{number_at, gate_of, body_of, other}
@@ -17,7 +17,7 @@ use Rattle.page_chain.specs.declared.slots.slots.slots.Slots.{Slots}
 use Rattle.page_chain.specs.declared.slots.slots.slots.RootSlot.{RootSlot}
 use Rattle.page_chain.specs.declared.slots.slots.slots.RootSlot.TheVariants as roots
 use Rattle.page_chain.proofs.RootImages.{slot_kept, side_high, gate_then_body}
-use Rattle.page_file.specs.OpeningOpened.{HasPage, CutsPage, FrontRead, PageLog, LogRead, IsRead, IsOpened, AreFresh, IsDeviceFault}
+use Rattle.page_file.specs.OpeningOpened.{HasPage, CutsPage, FrontRead, PageLog, LogRead, IsRead, IsOpened, AreFresh, IsDeviceFault, HasCause, RecordsRead}
 use Rattle.page_chain.specs.declared.fault.OpenCause.{OpenCause}
 use Rattle.page_chain.specs.declared.fault.OpenCause.TheVariants.{Disk, NotDatabase, Memory}
 use Rattle.page_file.proofs.Fresh.{fresh_sound}
@@ -146,3 +146,64 @@ pub sound_told : (slots : Slots) (seen : Option (List ℕ)) (now : List ℕ → 
     → IfSome seen (λ file. OtherHolds slots.other (other slots.current.side) slots.current.root.sequence file) → IfSome seen (λ file. Only file now) → IfSome seen (λ file. IsSound slots file now)
 sound_told slots None now fresh opens beside only = tt
 sound_told slots (Some file) now fresh opens beside only = fresh_sound slots file now only opens beside fresh
+
+-- ---- what is told of page 0 and of the log page, as what the file opens as
+
+front_wrong : (fault : OpenCause) (file : List ℕ) → FrontRead file (Err fault) → IsOpened file (Err fault)
+front_wrong Disk file told = tt
+front_wrong (NotDatabase page) file told = inl (told.0, inl told.1)
+front_wrong Memory file told = tt
+
+log_wrong : (fault : OpenCause) (x : OpenRoot × RootSlot) (file : List ℕ) → FrontRead file (Ok x) → RecordsRead file x.0 (Err fault) → IsOpened file (Err fault)
+log_wrong Disk x file front told = tt
+log_wrong (NotDatabase page) x file front told = ⊎_elim
+    (λ out. inl (out.0, inr (record { slot = x.0; is = front.0; format = told.0; out = out.1 })))
+    (λ stray. inr (record { slot = x.0; is = front.0; format = told.0; log = stray.0; named = stray.1; stray = stray.2 })) told.1
+log_wrong Memory x file front told = tt
+
+front_at : (x : OpenRoot × RootSlot) (s0 s1 s2 : Option (List ℕ)) (P Q : List ℕ → Type 0) → s1 ≡ s0 → s2 ≡ s1 → ((file : List ℕ) → FrontRead file (Ok x) → P file → Q file)
+    → IfSome s1 (λ file. FrontRead file (Ok x)) → IfSome s2 P → IfSome s0 Q
+front_at x s0 s1 s2 P Q before then_ both front told =
+    subst (λ (s : Option (List ℕ)). IfSome s Q) before (go s1 front (subst (λ (s : Option (List ℕ)). IfSome s P) then_ told))
+  where
+    go : (s : Option (List ℕ)) → IfSome s (λ file. FrontRead file (Ok x)) → IfSome s P → IfSome s Q
+    go None f t = tt
+    go (Some file) f t = both file f t
+
+pub front_refused : (fault : OpenCause) (s0 s1 : Option (List ℕ)) → s1 ≡ s0 → IfSome s1 (λ file. FrontRead file (Err fault)) → IfSome s0 (λ file. IsOpened file (Err fault))
+front_refused fault s0 s1 before told = subst (λ (s : Option (List ℕ)). IfSome s (λ file. IsOpened file (Err fault))) before (go s1 told)
+  where
+    go : (s : Option (List ℕ)) → IfSome s (λ file. FrontRead file (Err fault)) → IfSome s (λ file. IsOpened file (Err fault))
+    go None t = tt
+    go (Some file) t = front_wrong fault file t
+
+pub log_refused : (fault : OpenCause) (x : OpenRoot × RootSlot) (s0 s1 s2 : Option (List ℕ)) → s1 ≡ s0 → s2 ≡ s1
+    → IfSome s1 (λ file. FrontRead file (Ok x)) → IfSome s2 (λ file. RecordsRead file x.0 (Err fault)) → IfSome s0 (λ file. IsOpened file (Err fault))
+log_refused fault x s0 s1 s2 before then_ front told =
+    front_at x s0 s1 s2 (λ file. RecordsRead file x.0 (Err fault)) (λ file. IsOpened file (Err fault)) before then_ (log_wrong fault x) front told
+
+pub slots_opened : (slots : Slots) (x : OpenRoot × RootSlot) (records : List RecordAt) (s0 s1 s2 : Option (List ℕ)) → slots.current ≡ x.0 → slots.records ≡ records → s1 ≡ s0 → s2 ≡ s1
+    → IfSome s1 (λ file. FrontRead file (Ok x)) → IfSome s2 (λ file. RecordsRead file x.0 (Ok records)) → IfSome s0 (λ file. OpensAs slots.current slots.records file)
+slots_opened slots x records s0 s1 s2 current_is records_are before then_ front told =
+    front_at x s0 s1 s2 (λ file. RecordsRead file x.0 (Ok records)) (λ file. OpensAs slots.current slots.records file) before then_
+    (λ file f t. subst (λ (root : OpenRoot). OpensAs root slots.records file) (sym current_is) (subst (λ (rs : List RecordAt). OpensAs x.0 rs file) (sym records_are) (record { slot = f.0; log = t }))) front told
+
+pub other_told : (slots : Slots) (x : OpenRoot × RootSlot) (s0 s1 : Option (List ℕ)) → slots.current ≡ x.0 → slots.other ≡ x.1 → s1 ≡ s0
+    → IfSome s1 (λ file. FrontRead file (Ok x)) → IfSome s0 (λ file. OtherHolds slots.other (other slots.current.side) slots.current.root.sequence file)
+other_told slots x s0 s1 current_is other_is before front =
+    front_at x s0 s1 s1 (λ file. FrontRead file (Ok x)) (λ file. OtherHolds slots.other (other slots.current.side) slots.current.root.sequence file) before refl
+    (λ file f t. subst (λ (root : OpenRoot). OtherHolds slots.other (other root.side) root.root.sequence file) (sym current_is)
+    (subst (λ (known : RootSlot). OtherHolds known (other x.0.side) x.0.root.sequence file) (sym other_is) f.1)) front front
+
+-- what is told of a log page on its own
+pub log_fits : (page : List ℕ) (log : ℕ) (r : Result (List RecordAt) OpenCause) → PageLog page log r → IfOk r (λ records. length records ≤ 64)
+log_fits page log (Ok records) told = told.1
+log_fits page log (Err fault) told = tt
+
+pub log_cause : (page : List ℕ) (log : ℕ) (r : Result (List RecordAt) OpenCause) (old new : DiskState) → PageLog page log r → IfErr r (λ fault. HasCause fault old new)
+log_cause page log (Ok records) old new told = tt
+log_cause page log (Err fault) old new told = subst (λ (f : OpenCause). HasCause f old new) (sym told.0) tt
+
+pub front_cause : {A : Type 0} (r : Result A OpenCause) (old new : DiskState) → IfErr r (λ fault. fault ≡ NotDatabase 0) → IfErr r (λ fault. HasCause fault old new)
+front_cause (Ok x) old new told = tt
+front_cause (Err fault) old new told = subst (λ (f : OpenCause). HasCause f old new) (sym told) tt

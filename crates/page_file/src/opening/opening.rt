@@ -127,6 +127,27 @@ fn target_of(format: Format, records: &Records) -> Target
     }
 }
 
+/// The slots of a file to which nothing was written yet.
+fn fresh_slots(current: OpenRoot, other: RootSlot, records: Records) -> Slots
+    requires fits { length records ≤ 64 }
+    requires other { IsRead other }
+    ensures current { result.current ≡ current }
+    ensures records { result.records ≡ records }
+    ensures other { result.other ≡ other }
+    ensures fresh { AreFresh result }
+{
+    let target = target_of(current.format, &records);
+    Slots {
+        current,
+        records,
+        target,
+        other,
+        next: NextEntry::Closed,
+        doubtful: false,
+        zeroed: None,
+    }
+}
+
 fn open_parts<D: Disk>(disk: &mut D) -> Result<Slots, OpenCause>
     ensures opened { IfSome (D.moment disk.old).state.seen (λ seen. IsOpened seen result) }
     ensures other { IfSome (D.moment disk.old).state.seen
@@ -137,21 +158,15 @@ fn open_parts<D: Disk>(disk: &mut D) -> Result<Slots, OpenCause>
     ensures cause { IfErr result (λ fault. HasCause fault (D.moment disk.old).state (D.moment disk.new).state) }
 {
     match settle(disk) {
-        Ok(()) => {}
-        Err(fault) => return Err(fault),
+        Ok(()) => match read_front(disk) {
+            Ok((current, other)) => match read_records(disk, current) {
+                Ok(records) => Ok(fresh_slots(current, other, records)),
+                Err(fault) => Err(fault),
+            },
+            Err(fault) => Err(fault),
+        },
+        Err(fault) => Err(fault),
     }
-    let (current, other) = read_front(disk)?;
-    let records = read_records(disk, current)?;
-    let target = target_of(current.format, &records);
-    Ok(Slots {
-        current,
-        records,
-        target,
-        other,
-        next: NextEntry::Closed,
-        doubtful: false,
-        zeroed: None,
-    })
 }
 
 /// Opens a file: syncs it, and reads its current root and its log.

@@ -1,77 +1,66 @@
-use Rattle.page_file.proofs.Kept.{root_ready, root_there}
-use Rattle.page_file.proofs.Opened.{root_open}
-use Rattle.page_file.specs.Commits.{root_of}
+use Rattle.std.proofs.Common.{[], ◌∷◌, sym, ap, arith}
 use Rattle.page_chain.specs.Standing.{gate_place, target_page}
 use Rattle.page_chain.specs.declared.slots.slots.slots.Target.{Target}
-use Rattle.std.proofs.Common.{[], ◌∷◌, sym, ap, arith}
+use Rattle.page_file.specs.Commits.{root_of}
+use Rattle.page_file.proofs.Kept.{root_ready, root_there}
+use Rattle.page_file.proofs.Opened.{root_open}
 use Rattle.page_file.proofs.BlobLemmas.{all_on}
 use Rattle.page_file.proofs.GoingLemmas.{stays_known, put_keeps, reread_of}
 use Rattle.page_file.proofs.BaseLemmas.{ajar_goes, root_ajar, root_opened}
 use Rattle.page_file.proofs.commits.bases.open_base.Goals as goal
 
-pub open_slot-requires-clause-ready : goal.open_slot-requires-clause-ready
-open_slot-requires-clause-ready g c = root_ready c.args.file.now.slots (root_of c.args.sequence c.args.chain.now c.args.log) c.requires.target c.requires.written c.requires.zeroed
+pub open_slot-requires : goal.open_slot-requires
+open_slot-requires g c = record {
+  ready = root_ready c.args.file.now.slots (root_of c.args.sequence c.args.chain.now c.args.log) c.requires.target c.requires.written c.requires.zeroed;
+  sure = c.requires.sure;
+  there = root_there c.args.file.now.slots c.requires.target;
+}
 
-pub returns-in-Ok-clause-slots : goal.returns-in-Ok-clause-slots
-returns-in-Ok-clause-slots g c = root_opened c.args.file.now.slots c.open_slot.new.self.slots (root_of c.args.sequence c.args.chain.now c.args.log) c.requires.target c.requires.written c.in-Ok.ensures.slots
-
-pub returns-in-Err-clause-slots : goal.returns-in-Err-clause-slots
-returns-in-Err-clause-slots g c = root_ajar c.args.file.now.slots c.open_slot.new.self.slots (root_of c.args.sequence c.args.chain.now c.args.log) c.requires.target c.requires.written c.in-Err.ensures.slots
-
-pub returns-in-Ok-clause-done : goal.returns-in-Ok-clause-done
-returns-in-Ok-clause-done g c = λ seen known holds x left.
+pub returns-in-Ok : goal.returns-in-Ok
+returns-in-Ok g c =
     let old = c.args.file.now in
     let new = c.open_slot.new.self in
     let m0 = g.D.Disk.moment old.disk in
-    let m1 = g.D.Disk.moment new.disk in
-    let s = stays_known old.slots new.slots m0 m1 c.in-Ok.ensures.writes.same c.in-Ok.ensures.sound seen known in
-    let went = ajar_goes old.slots c.args.blobs.now c.args.chain.now c.args.sequence c.args.log seen m0 m1 c.requires.target c.requires.sure c.requires.written c.requires.apart known holds (g.met.D.Disk.as_read old.disk) c.in-Ok.ensures.writes c.in-Ok.ensures.opens in
-    let over = went.crash x left in (
-      root_open old.slots new.slots (root_of c.args.sequence c.args.chain.now c.args.log) seen s.0 m0.may_leave m1.may_leave c.requires.written c.requires.target c.in-Ok.ensures.slots known.sound s.1.sound x left,
-      all_on 0 c.args.blobs.now c.args.chain.now over.0 x c.requires.apart over.2 (holds over.0 over.1),
-    )
+    record {
+      slots = root_opened old.slots new.slots (root_of c.args.sequence c.args.chain.now c.args.log) c.requires.target c.requires.written c.in-Ok.ensures.slots;
+      known = stays_known old.slots new.slots (g.D.Disk.moment old.disk) (g.D.Disk.moment new.disk) c.in-Ok.ensures.writes.same c.in-Ok.ensures.sound;
+      goes = λ seen known holds.
+          ajar_goes old.slots c.args.blobs.now c.args.chain.now c.args.sequence c.args.log seen (g.D.Disk.moment old.disk) (g.D.Disk.moment new.disk) c.requires.target c.requires.sure c.requires.written c.requires.apart known holds (g.met.D.Disk.as_read old.disk)
+          c.in-Ok.ensures.writes c.in-Ok.ensures.opens;
+      done = λ seen known holds x left.
+          let m1 = g.D.Disk.moment new.disk in
+          let s = stays_known old.slots new.slots m0 m1 c.in-Ok.ensures.writes.same c.in-Ok.ensures.sound seen known in
+          let went = ajar_goes old.slots c.args.blobs.now c.args.chain.now c.args.sequence c.args.log seen m0 m1 c.requires.target c.requires.sure c.requires.written c.requires.apart known holds (g.met.D.Disk.as_read old.disk) c.in-Ok.ensures.writes c.in-Ok.ensures.opens in
+          let over = went.crash x left in (
+            root_open old.slots new.slots (root_of c.args.sequence c.args.chain.now c.args.log) seen s.0 m0.may_leave m1.may_leave c.requires.written c.requires.target c.in-Ok.ensures.slots known.sound s.1.sound x left,
+            all_on 0 c.args.blobs.now c.args.chain.now over.0 x c.requires.apart over.2 (holds over.0 over.1),
+          );
+      durable = c.in-Ok.ensures.durable;
+      seen = λ seen known.
+          let m1 = g.D.Disk.moment new.disk in
+          reread_of (0 ∷ []) seen old.slots m0 m1 known
+          (put_keeps old.slots (0) (gate_place old.slots.target old.slots) 1 seen m0 m1 (sym (ap (λ (t : Target). target_page t old.slots) c.requires.target)) known (root_there old.slots c.requires.target) (g.met.D.Disk.as_read old.disk) (omega arith) (omega arith) c.in-Ok.ensures.writes);
+      same = c.in-Ok.ensures.writes.same;
+      cause = tt;
+    }
 
-pub returns-in-Ok-clause-known : goal.returns-in-Ok-clause-known
-returns-in-Ok-clause-known g c =
+pub returns-in-Err : goal.returns-in-Err
+returns-in-Err g c =
     let old = c.args.file.now in
     let new = c.open_slot.new.self in
-    stays_known old.slots new.slots (g.D.Disk.moment old.disk) (g.D.Disk.moment new.disk) c.in-Ok.ensures.writes.same c.in-Ok.ensures.sound
-
-pub returns-in-Ok-clause-goes : goal.returns-in-Ok-clause-goes
-returns-in-Ok-clause-goes g c = λ seen known holds.
-    let old = c.args.file.now in
-    let new = c.open_slot.new.self in
-    ajar_goes old.slots c.args.blobs.now c.args.chain.now c.args.sequence c.args.log seen (g.D.Disk.moment old.disk) (g.D.Disk.moment new.disk) c.requires.target c.requires.sure c.requires.written c.requires.apart known holds (g.met.D.Disk.as_read old.disk)
-    c.in-Ok.ensures.writes c.in-Ok.ensures.opens
-
-pub returns-in-Err-clause-known : goal.returns-in-Err-clause-known
-returns-in-Err-clause-known g c =
-    let old = c.args.file.now in
-    let new = c.open_slot.new.self in
-    stays_known old.slots new.slots (g.D.Disk.moment old.disk) (g.D.Disk.moment new.disk) c.in-Err.ensures.writes.same c.in-Err.ensures.sound
-
-pub returns-in-Err-clause-goes : goal.returns-in-Err-clause-goes
-returns-in-Err-clause-goes g c = λ seen known holds.
-    let old = c.args.file.now in
-    let new = c.open_slot.new.self in
-    ajar_goes old.slots c.args.blobs.now c.args.chain.now c.args.sequence c.args.log seen (g.D.Disk.moment old.disk) (g.D.Disk.moment new.disk) c.requires.target c.requires.sure c.requires.written c.requires.apart known holds (g.met.D.Disk.as_read old.disk)
-    c.in-Err.ensures.writes c.in-Err.ensures.opens
-
-pub open_slot-requires-clause-there : goal.open_slot-requires-clause-there
-open_slot-requires-clause-there g c = root_there c.args.file.now.slots c.requires.target
-
-pub returns-in-Ok-clause-seen : goal.returns-in-Ok-clause-seen
-returns-in-Ok-clause-seen g c = λ seen known.
-    let old = c.args.file.now in
     let m0 = g.D.Disk.moment old.disk in
     let m1 = g.D.Disk.moment c.open_slot.new.self.disk in
-    reread_of (0 ∷ []) seen old.slots m0 m1 known
-    (put_keeps old.slots (0) (gate_place old.slots.target old.slots) 1 seen m0 m1 (sym (ap (λ (t : Target). target_page t old.slots) c.requires.target)) known (root_there old.slots c.requires.target) (g.met.D.Disk.as_read old.disk) (omega arith) (omega arith) c.in-Ok.ensures.writes)
-
-pub returns-in-Err-clause-seen : goal.returns-in-Err-clause-seen
-returns-in-Err-clause-seen g c = λ seen known.
-    let old = c.args.file.now in
-    let m0 = g.D.Disk.moment old.disk in
-    let m1 = g.D.Disk.moment c.open_slot.new.self.disk in
-    reread_of (0 ∷ []) seen old.slots m0 m1 known
-    (put_keeps old.slots (0) (gate_place old.slots.target old.slots) 1 seen m0 m1 (sym (ap (λ (t : Target). target_page t old.slots) c.requires.target)) known (root_there old.slots c.requires.target) (g.met.D.Disk.as_read old.disk) (omega arith) (omega arith) c.in-Err.ensures.writes)
+    record {
+      slots = root_ajar old.slots new.slots (root_of c.args.sequence c.args.chain.now c.args.log) c.requires.target c.requires.written c.in-Err.ensures.slots;
+      known = stays_known old.slots new.slots (g.D.Disk.moment old.disk) (g.D.Disk.moment new.disk) c.in-Err.ensures.writes.same c.in-Err.ensures.sound;
+      goes = λ seen known holds.
+          ajar_goes old.slots c.args.blobs.now c.args.chain.now c.args.sequence c.args.log seen (g.D.Disk.moment old.disk) (g.D.Disk.moment new.disk) c.requires.target c.requires.sure c.requires.written c.requires.apart known holds (g.met.D.Disk.as_read old.disk)
+          c.in-Err.ensures.writes c.in-Err.ensures.opens;
+      done = tt;
+      durable = tt;
+      seen = λ seen known.
+          reread_of (0 ∷ []) seen old.slots m0 m1 known
+          (put_keeps old.slots (0) (gate_place old.slots.target old.slots) 1 seen m0 m1 (sym (ap (λ (t : Target). target_page t old.slots) c.requires.target)) known (root_there old.slots c.requires.target) (g.met.D.Disk.as_read old.disk) (omega arith) (omega arith) c.in-Err.ensures.writes);
+      same = c.in-Err.ensures.writes.same;
+      cause = c.in-Err.ensures.cause;
+    }

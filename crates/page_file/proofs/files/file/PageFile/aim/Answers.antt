@@ -11,3 +11,6 @@ returns-clause-sound g c = λ seen sound.
     let here = subst (λ (f : OpenFile _). IsSound f.slots seen (g.D.Disk.moment f.disk).may_leave) (sym c.self.view_is) sound in
     let sure = ap (λ (f : OpenFile _). f.slots.doubtful) c.self.view_is ∙ c.requires.sure in
     subst (λ (s : Slots). IsSound s seen (g.D.Disk.moment inside.disk).may_leave) (sym c.aim.ensures) (aimed_sound c.target_of-target.result inside.slots seen (g.D.Disk.moment inside.disk).may_leave sure here)
+
+pub returns-clause-disk : goal.returns-clause-disk
+returns-clause-disk g c = ap (λ (f : OpenFile _). f.disk) c.self.view_is

@@ -1,17 +1,46 @@
-use Rattle.std.proofs.Common.{subst}
-use Rattle.std.specs.Prelude.{OnOk}
-use Rattle.page_chain.specs.Places.{KeepsPages}
-use Rattle.page_chain.specs.Pages.{page_size}
+use Rattle.std.proofs.Common.{subst, sym}
+use Rattle.std.specs.Prelude.{OnOk, ◌≡◌}
 use Rattle.page_chain.specs.Chains.{HoldsChain}
+use Rattle.page_chain.specs.Disk.{FailsWithCause}
 use Rattle.page_chain.specs.Inner.Runs.{OnlyWrites, Sees}
+use Rattle.page_chain.specs.Pages.{page_size}
+use Rattle.page_chain.specs.Places.{KeepsPages}
+use Rattle.page_chain.specs.Standing.{IsClosed, KeepsSound, LeavesOpening}
+use Rattle.page_chain.specs.Steps.{emptied}
 use Rattle.page_file.specs.FilesOpened.{OpenFile}
+use Rattle.page_file.specs.Written.{MayWrite, pages_written}
 use Rattle.page_file.proofs.files.file.PageFile.write_chain.Goals as goal
 
-pub returns-clause-writes : goal.returns-clause-writes
-returns-clause-writes g c =
-    subst (λ (f : OpenFile _). OnlyWrites c.args.pages.now (g.D.Disk.moment f.disk) (g.D.Disk.moment c.write_chain.new.disk)) c.self.view_is c.write_chain.ensures.writes
+pub write_chain-requires-clause-closed : goal.write_chain-requires-clause-closed
+write_chain-requires-clause-closed g c = subst (λ (f : OpenFile _). IsClosed f.slots) (sym c.self.view_is) c.requires.closed
 
-pub returns-clause-seen : goal.returns-clause-seen
-returns-clause-seen g c =
-    subst (λ (f : OpenFile _). Sees (g.D.Disk.moment f.disk).state (g.D.Disk.moment c.write_chain.new.disk).state
-    (λ seen now. KeepsPages c.args.pages.now seen now × OnOk c.write_chain.result (HoldsChain page_size now c.args.pages.now c.args.bytes.now))) c.self.view_is c.write_chain.ensures.seen
+pub write_chain-requires-clause-free : goal.write_chain-requires-clause-free
+write_chain-requires-clause-free g c = subst (λ (f : OpenFile _). MayWrite c.args.pages.now f.slots) (sym c.self.view_is) c.requires.free
+
+pub returns : goal.returns
+returns g c =
+    let is = c.self.view_is in
+    let did = c.write_chain.ensures in
+    let answer = c.write_chain.result in
+    let slots = c.write_chain.new.slots in
+    let moment = g.D.Disk.moment in
+    let new = moment c.write_chain.new.disk in record {
+      slots = subst
+          (λ (f : OpenFile _). slots ≡ pages_written c.args.pages.now f.slots)
+          is did.slots;
+      sound = subst
+          (λ (f : OpenFile _). KeepsSound f.slots slots (moment f.disk) new)
+          is did.sound;
+      opens = subst
+          (λ (f : OpenFile _). LeavesOpening f.slots (emptied f.slots) (moment f.disk) new)
+          is did.opens;
+      seen = subst
+          (λ (f : OpenFile _). Sees (moment f.disk).state new.state (λ seen now. KeepsPages c.args.pages.now seen now × OnOk answer (HoldsChain page_size now c.args.pages.now c.args.bytes.now)))
+          is did.seen;
+      writes = subst
+          (λ (f : OpenFile _). OnlyWrites c.args.pages.now (moment f.disk) new)
+          is did.writes;
+      cause = subst
+          (λ (f : OpenFile _). FailsWithCause answer (moment f.disk) new)
+          is did.cause;
+    }
