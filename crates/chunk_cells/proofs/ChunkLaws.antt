@@ -1,5 +1,7 @@
 -- Chunks that have taken all rows are the array.
-use Rattle.std.proofs.Common.{◌≡◌, ℕ, Bool, true, false, cond, ◌<◌, List, [], ◌∷◌, length, refl, sym, ap, ◌∙◌, subst}
+use Rattle.chunk_cells.proofs.CellLaws.{take_with}
+use Rattle.std.proofs.lemmas.List.{map-append}
+use Rattle.std.proofs.Common.{◌≡◌, ℕ, Bool, true, false, cond, ◌<◌, List, [], ◌∷◌, length, refl, sym, ap, ◌∙◌, subst, ◌+◌, ◌++◌, take, get_or}
 use Rattle.std.specs.List.{AllByRecursion}
 use Rattle.cell_values.specs.declared.datum.Row.{Row}
 use Rattle.cell_values.specs.declared.schema.Dimension.{Dimension}
@@ -47,3 +49,24 @@ are_chunks dims margins rows listed chunks cores same parts = record {
   listed = λ k l. ap (is_listed k) same ∙ cores.named.cores k l;
   parts = parts;
 }
+
+-- chunks with the numbers of the cores that have a row
+pub chunks_made : (dims : List Dimension) (margins : List ℕ) (rows : List Row) (listed : List (ArrayVec ℕ)) (chunks : List Chunk) → AreCoresOf dims rows listed → numbers chunks ≡ numbers_in listed
+    → AllByRecursion (IsPart dims margins rows) chunks → AreChunksOf dims margins rows chunks
+chunks_made dims margins rows listed chunks are same parts = record {
+  in_order = subst NumbersRise (sym same) are.in_order;
+  sized = subst (AllByRecursion (λ k. length k ≡ length dims)) (sym same) are.named.sized;
+  listed = λ k sized. ap (is_listed k) same ∙ are.named.cores k sized;
+  parts = parts;
+}
+
+pub numbers_more : (chunks new : List Chunk) (chunk : Chunk) (listed : List (ArrayVec ℕ)) (i : ℕ) (number : ArrayVec ℕ) → new ≡ chunks ++ chunk ∷ [] → numbers chunks ≡ numbers_in (take i listed)
+    → chunk.at ≡ number → i < length listed → number ≡ get_or listed i number → numbers new ≡ numbers_in (take (i + 1) listed)
+numbers_more chunks new chunk listed i number pushed same at_is low is =
+    ap numbers pushed ∙ map-append (λ (c : Chunk). c.at.items) chunks (chunk ∷ [])
+    ∙ ap (λ ks. ks ++ chunk.at.items ∷ []) same ∙ ap (λ (k : ArrayVec ℕ). numbers_in (take i listed) ++ k.items ∷ []) at_is
+    ∙ sym (map-append (λ (k : ArrayVec ℕ). k.items) (take i listed) (number ∷ [])) ∙ ap numbers_in (take_with listed i number low is)
+
+pub all_and_last : {X : Type 0} (P : X → Type 0) (xs : List X) (x : X) → AllByRecursion P xs → P x → AllByRecursion P (xs ++ x ∷ [])
+all_and_last P [] x all last = (last, tt)
+all_and_last P (y ∷ xs) x all last = (all.0, all_and_last P xs x all.1 last)

@@ -1,5 +1,6 @@
 -- The rows of a chunk's core, cell by cell.
-use Rattle.std.proofs.Common.{◌≡◌, ℕ, ◌+◌, ◌<◌, ◌≤◌, ℤ, List, [], ◌∷◌, ◌++◌, length, drop, refl, sym, ap, ◌∙◌, append_assoc}
+use Rattle.std.specs.List.{AllByRecursion}
+use Rattle.std.proofs.Common.{◌≡◌, ℕ, ◌+◌, ◌<◌, ◌≤◌, ℤ, List, [], ◌∷◌, ◌++◌, length, drop, refl, sym, ap, ◌∙◌, append_assoc, zero, suc, subst, arith}
 use Rattle.std.specs.Prelude.{slice_index_or}
 use Rattle.std.proofs.lemmas.List.{drop_more, drop_all}
 use Rattle.std.proofs.lemmas.List.Elements.{filter-append}
@@ -44,3 +45,20 @@ pub done : (core : Bounds) (low : List ℤ) (lengths : List ℕ) (rows : List Ro
     → length positions ≤ i → IsOnTheWay core low lengths rows (drop i positions) cells positions all → rows ≡ within core (rows_in low lengths positions all)
 done core low lengths rows i cells positions all l h =
     sym (append-nil rows) ∙ ap (λ (ps : List ℕ). rows ++ within core (rows_in low lengths ps cells)) (sym (drop_all i positions l)) ∙ h
+
+-- each position is a place of the frame
+pub place_at : (bound : ℕ) (positions slice : List ℕ) (i : ℕ) → slice ≡ positions → i < length slice → AllByRecursion (λ p. p < bound) positions → slice_index_or slice i 0 < bound
+place_at bound positions slice i is low all = at slice i low (subst (AllByRecursion (λ p. p < bound)) (sym is) all)
+  where
+    at : (ps : List ℕ) (i : ℕ) → i < length ps → AllByRecursion (λ p. p < bound) ps → slice_index_or ps i 0 < bound
+    at [] i low a = absurd (omega (arith, low))
+    at (p ∷ ps) zero low a = a.0
+    at (p ∷ ps) (suc i) low a = at ps i (omega (arith, low)) a.1
+
+pub rows_of_core : (box core : Bounds) (low low' : List ℤ) (lengths lengths' : List ℕ) (rows : List Row) (i : ℕ) (cells : List Cell) (slice positions : List ℕ) (all : List Cell)
+    → box ≡ core → low ≡ low' → lengths ≡ lengths' → slice ≡ positions → length slice ≤ i → IsOnTheWay box low lengths rows (drop i slice) cells slice all
+    → rows ≡ within core (rows_in low' lengths' positions all)
+rows_of_core box core low low' lengths lengths' rows i cells slice positions all b e f g past way =
+    done box low lengths rows i cells slice all past way
+    ∙ ap (λ (area : Bounds). within area (rows_in low lengths slice all)) b ∙ ap (λ (l : List ℤ). within core (rows_in l lengths slice all)) e
+    ∙ ap (λ (n : List ℕ). within core (rows_in low' n slice all)) f ∙ ap (λ (ps : List ℕ). within core (rows_in low' lengths' ps all)) g

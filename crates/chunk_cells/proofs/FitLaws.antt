@@ -1,5 +1,5 @@
 -- Fitted rows are rows of the new schema.
-use Rattle.std.proofs.Common.{◌≡◌, ℕ, ◌*◌, ◌≤◌, ◌^◌, ℤ, suc, Bool, true, false, ◌&&◌, not, cond, List, [], ◌∷◌, length, map, None, Ok, IsTrue, refl, sym, ap, subst, arith}
+use Rattle.std.proofs.Common.{◌≡◌, ℕ, ◌*◌, ◌≤◌, ◌^◌, ℤ, suc, Bool, true, false, ◌&&◌, not, cond, List, [], ◌∷◌, length, map, None, Ok, IsTrue, refl, sym, ap, subst, arith, ◌++◌, Some, Option, ◌∙◌, append_assoc}
 use Rattle.std.specs.List.{AllByRecursion}
 use Rattle.cell_values.specs.declared.datum.Cell.{Cell}
 use Rattle.cell_values.specs.declared.datum.Cell.TheVariants.{Full, Doubt}
@@ -107,3 +107,20 @@ stored_places schema margins e m =
     let small = at_most (frame_size dims) 281474976710656 a.1 in
     let same = size_is_volume dims in
     subst (λ (ms : List ℕ). volume (frame_lengths dims ms) ≤ 2 ^ 48) (sym m) (omega arith)
+
+-- ---- rows fitted one by one
+
+fitted_first : (attributes : List Attribute) (row : Row) (cell : Cell) (rows : List Row) → fit_cell attributes [] row.cell ≡ Some cell
+    → fit_rows attributes (row ∷ rows) ≡ record { at = row.at; cell = cell } ∷ fit_rows attributes rows
+fitted_first attributes row cell rows e = ap (λ (o : Option Cell). put_first row.at.items o (fit_rows attributes rows)) (anywhere row.cell ∙ e)
+  where
+    anywhere : (found : Cell) → fit_cell attributes row.at.items found ≡ fit_cell attributes [] found
+    anywhere (Full values) = refl
+    anywhere (Doubt kind) = refl
+
+pub fitted_more : (attributes : List Attribute) (made new : List Row) (row : Row) (cell : Cell) (left all whole : List Row) → new ≡ made ++ record { at = row.at; cell = cell } ∷ [] → all ≡ row ∷ left
+    → fit_cell attributes [] row.cell ≡ Some cell → made ++ fit_rows attributes all ≡ whole → new ++ fit_rows attributes left ≡ whole
+fitted_more attributes made new row cell left all whole pushed taken fits is =
+    let fresh : Row = record { at = row.at; cell = cell } in
+    ap (λ (rs : List Row). rs ++ fit_rows attributes left) pushed ∙ append_assoc made (fresh ∷ []) (fit_rows attributes left)
+    ∙ ap (λ (rs : List Row). made ++ rs) (sym (fitted_first attributes row cell left fits)) ∙ ap (λ (rs : List Row). made ++ fit_rows attributes rs) (sym taken) ∙ is

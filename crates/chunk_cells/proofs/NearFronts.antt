@@ -1,5 +1,6 @@
 -- Which chunks have a coordinate in their frame, as functions read lists from the front: what is pushed first stands before what the rest gives.
-use Rattle.std.proofs.Common.{Bool, false, cond, ◌≡◌, ◌∙◌, ℕ, ◌+◌, ◌-◌, ◌/◌, ◌≤◌, ◌<◌, ℤ, pos, ◌-ℤ◌, List, [], ◌∷◌, ◌++◌, append-nil, append_assoc, length, get_or, sym, ap, arith}
+use Rattle.std.proofs.lemmas.List.{length-take-le, take_more}
+use Rattle.std.proofs.Common.{Bool, false, cond, ◌≡◌, ◌∙◌, ℕ, ◌+◌, ◌-◌, ◌/◌, ◌≤◌, ◌<◌, ℤ, pos, ◌-ℤ◌, List, [], ◌∷◌, ◌++◌, append-nil, append_assoc, length, get_or, sym, ap, arith, true, take, length-append}
 use Rattle.std.specs.Ordering.{is_lt}
 use Rattle.std.specs.Prelude.{unsigned_abs}
 use Rattle.std.proofs.lemmas.Bool.{le-ltb}
@@ -87,3 +88,34 @@ next_kept (l ∷ low) (h ∷ high) (k ∷ ks) old more new _ _ _ from before pus
     ∙ ap (λ (ns : List ℕ). more ++ next_between low high ns) (rest_is k ks)
     ∙ ap (λ (z : List ℕ). z ++ behind) pushed ∙ append_assoc old (k ∷ []) behind
     ∙ sym (ap (λ (b : Bool). old ++ cond b (l ∷ low) raised) (le-ltb k l from) ∙ ap (λ (b : Bool). old ++ cond b ((k + 1) ∷ low) (k ∷ behind)) not_past)
+
+-- the first number is raised, and the others are the lowest
+pub next_raised : (low high chunk old more new : List ℕ) → 1 ≤ length low → 1 ≤ length high → 1 ≤ length chunk → get_or low 0 0 ≤ get_or chunk 0 0
+    → is_lt (number_order (rest high) (rest chunk)) ≡ true → more ≡ old ++ (get_or chunk 0 0 + 1) ∷ []
+    → new ≡ more ++ rest low → new ≡ old ++ next_between low high chunk
+next_raised [] high chunk old more new some _ _ _ _ _ _ = absurd (omega (arith, some))
+next_raised (l ∷ low) [] chunk old more new _ some _ _ _ _ _ = absurd (omega (arith, some))
+next_raised (l ∷ low) (h ∷ high) [] old more new _ _ some _ _ _ _ = absurd (omega (arith, some))
+next_raised (l ∷ low) (h ∷ high) (k ∷ ks) old more new _ _ _ from past pushed after =
+    let behind = next_between low high ks in
+    let raised = cond (is_lt (number_order high ks)) ((k + 1) ∷ low) (k ∷ behind) in
+    let is_past = ap (λ (ns : List ℕ). is_lt (number_order ns ks)) (sym (rest_is h high))
+    ∙ ap (λ (ns : List ℕ). is_lt (number_order (rest (h ∷ high)) ns)) (sym (rest_is k ks)) ∙ past in
+    after ∙ ap (λ (ns : List ℕ). more ++ ns) (rest_is l low) ∙ ap (λ (z : List ℕ). z ++ low) pushed ∙ append_assoc old ((k + 1) ∷ []) low
+    ∙ sym (ap (λ (b : Bool). old ++ cond b (l ∷ low) raised) (le-ltb k l from) ∙ ap (λ (b : Bool). old ++ cond b ((k + 1) ∷ low) (k ∷ behind)) is_past)
+
+pub no_next : (low high chunk old : List ℕ) → length low < 1 → old ≡ old ++ next_between low high chunk
+no_next [] high chunk old none = sym (append-nil old)
+no_next (l ∷ low) high chunk old none = absurd (omega (arith, none))
+
+-- ---- numbers pushed one by one
+
+pub room_for_one : (old numbers out : List ℕ) (i : ℕ) → out ≡ old ++ take i numbers → i < length numbers → length old + length numbers ≤ 6 → length out < 6
+room_for_one old numbers out i is low room =
+    let n : length out ≡ length old + i = ap length is ∙ length-append old (take i numbers) ∙ ap (λ (k : ℕ). length old + k) (length-take-le i numbers (omega (arith, low))) in
+    omega (arith, n, low, room)
+
+pub pushed_more : (old numbers out new : List ℕ) (i : ℕ) → out ≡ old ++ take i numbers → i < length numbers → new ≡ out ++ get_or numbers i 0 ∷ [] → new ≡ old ++ take (i + 1) numbers
+pushed_more old numbers out new i is low pushed =
+    pushed ∙ ap (λ (xs : List ℕ). xs ++ get_or numbers i 0 ∷ []) is ∙ append_assoc old (take i numbers) (get_or numbers i 0 ∷ [])
+    ∙ ap (λ (xs : List ℕ). old ++ xs) (sym (take_more numbers i 0 low))

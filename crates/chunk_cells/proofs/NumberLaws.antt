@@ -1,5 +1,6 @@
 -- Rising lists of chunk numbers, cut in two.
-use Rattle.std.proofs.Common.{◌≡◌, ℕ, zero, suc, ◌<◌, Bool, true, false, ◌||◌, List, [], ◌∷◌, ◌++◌, length, take, drop, get_or, refl, sym, ap, ◌∙◌, subst, arith}
+use Rattle.std.proofs.lemmas.List.{drop_all, drop_more}
+use Rattle.std.proofs.Common.{◌≡◌, ℕ, zero, suc, ◌<◌, Bool, true, false, ◌||◌, List, [], ◌∷◌, ◌++◌, length, take, drop, get_or, refl, sym, ap, ◌∙◌, subst, arith, ◌≤◌}
 use Rattle.std.specs.List.{AllByRecursion}
 use Rattle.std.specs.Ordering.{is_eq, is_lt}
 use Rattle.std.specs.Cmp.{IsTotalOrder}
@@ -112,3 +113,12 @@ pub rise_from : (xs : List (ArrayVec ℕ)) (i : ℕ) (y : ArrayVec ℕ) → Numb
 rise_from [] i y r l e = absurd (omega arith)
 rise_from (x ∷ xs) zero y r l e = subst (λ (z : ArrayVec ℕ). NumbersRise (numbers_in (z ∷ xs))) (sym e) r
 rise_from (x ∷ xs) (suc i) y r l e = rise_from xs i y r.1 (omega arith) e
+
+-- ---- the number at a place
+
+pub none_starts : (k : ChunkNumber) (listed : List (ArrayVec ℕ)) (at : ℕ) → length listed ≤ at → false ≡ starts_with k (drop at listed)
+none_starts k listed at past = sym (ap (starts_with k) (drop_all at listed past))
+
+pub found_starts : (k : ChunkNumber) (listed : List (ArrayVec ℕ)) (at : ℕ) (found : ArrayVec ℕ) → at < length listed → found ≡ get_or listed at found
+    → is_eq (number_order found.items k) ≡ starts_with k (drop at listed)
+found_starts k listed at found low is = ap (λ (n : ArrayVec ℕ). is_eq (number_order n.items k)) is ∙ sym (ap (starts_with k) (drop_more listed at found low))

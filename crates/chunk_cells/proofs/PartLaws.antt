@@ -242,3 +242,7 @@ not_longer i chunks listed same h = let l = lengths_same chunks listed same in o
 
 pub rest_after : {X : Type 0} (xs : List X) (i : ℕ) → take (length xs - (i + 1)) (drop (i + 1) xs) ≡ drop (suc i) xs
 rest_after xs i = rw add-one (take_all (length xs - suc i) (drop (suc i) xs) (let l = length-drop (suc i) xs in omega arith))
+
+pub between_is : (low high k a b d : List ℕ) → a ≡ low → b ≡ high → d ≡ k → lies_between low high k ≡ lies_between a b d
+between_is low high k a b d e f g =
+    sym (ap (λ (l : List ℕ). lies_between l b d) e ∙ ap (λ (h : List ℕ). lies_between low h d) f ∙ ap (lies_between low high) g)

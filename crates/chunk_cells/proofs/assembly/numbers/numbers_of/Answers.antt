@@ -16,3 +16,8 @@ loop-row-preserved c =
     let inside : is_inside (bounds_of dims) row.at.items ≡ true = row_at (λ (r : Row). is_inside (bounds_of dims) r.at.items ≡ true) rows i row c.requires.are_rows.in_bounds below c.row-item.is in
     subst (λ (rs : List Row). NameCores dims rs c.push_other.new.found) (take_with rows i row below c.row-item.is)
     (cores_more dims _ row c.chunk_of.result c.loop-row.found c.push_other.new.found (valid_placed c.args.schema.now c.requires.valid).near inside c.chunk_of.ensures c.loop-row.invariant c.in_ok-push_other.ensures.sized c.in_ok-push_other.ensures.listed)
+
+pub chunk_of-requires-clause-inside : goal.chunk_of-requires-clause-inside
+chunk_of-requires-clause-inside c =
+    row_at (λ (r : Row). is_inside (bounds_of c.args.schema.now.dimensions) r.at.items ≡ true) c.args.rows.now c.loop-row.row-index c.row-item.result
+    c.requires.are_rows.in_bounds c.loop-row-test.true c.row-item.is

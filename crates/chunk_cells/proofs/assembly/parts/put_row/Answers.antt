@@ -1,4 +1,4 @@
-use Rattle.std.proofs.Common.{◌≡◌, ℕ, ◌+◌, ◌<◌, suc, false, List, ◌∷◌, length, set, take, sym, subst, ◌∙◌, arith}
+use Rattle.std.proofs.Common.{◌≡◌, ℕ, ◌+◌, ◌<◌, suc, false, List, ◌∷◌, length, set, take, sym, subst, ◌∙◌, arith, rules}
 use Rattle.std.specs.List.{AllByRecursion}
 use Rattle.arrayvec.specs.ArrayVec.{ArrayVec}
 use Rattle.array_geom.specs.Link.{NumbersRise, numbers}
@@ -59,3 +59,8 @@ loop-index-preserved c =
 
 pub returns-clause-row : goal.returns-clause-row
 returns-clause-row c = taken_by_all c.args.schema.now c.args.margins.now.items c.args.row.now c.loop-index.index c.args.chunks.now.items c.loop-index.chunks.items (not_longer c.loop-index.index c.loop-index.chunks.items c.args.listed.now c.loop-index.invariant.same (omega arith)) c.loop-index.invariant.taken
+
+pub index_mut-requires : goal.index_mut-requires
+index_mut-requires c =
+    let below : c.loop-index.index < length c.loop-index.chunks.items = as_long c.loop-index.index c.loop-index.chunks.items c.args.listed.now c.loop-index.invariant.same c.loop-index-test.true in
+    search rules

@@ -1,13 +1,14 @@
 use Rattle.std.proofs.Common.{◌≡◌, List, Ok, sym, ap, ◌∙◌, subst}
 use Rattle.std.specs.List.{AllByRecursion}
+use Rattle.array_geom.proofs.MarginLaws.{overlap_each}
 use Rattle.cell_values.specs.declared.datum.Row.{Row}
 use Rattle.cell_values.specs.declared.schema.Attribute.{Attribute}
 use Rattle.array_rows.specs.Arrays.{AreRowsOf, Meant}
 use Rattle.array_geom.specs.Link.{Is}
-use Rattle.chunk_cells.proofs.MergeLaws.{if_ok}
-use Rattle.chunk_cells.proofs.WholeLaws.{gives_held, has_places}
 use Rattle.logical_plan.specs.CellOps.{fit_rows}
 use Rattle.chunk_cells.specs.Fitted.{HasValues}
+use Rattle.chunk_cells.proofs.MergeLaws.{if_ok}
+use Rattle.chunk_cells.proofs.WholeLaws.{gives_held, has_places}
 use Rattle.chunk_cells.proofs.FitLaws.{have_values, fitted_rows, fitted_meant, stored_places}
 use Rattle.chunk_cells.proofs.fitting.arrays.fit.Goals as goal
 
@@ -39,3 +40,9 @@ returns-in_ok-fitted-in-None-clause-array c = λ meant is.
     let meaning : List Row → Meant = λ rs. record { schema = schema; rows = Ok rs } in
     if_ok c.assemble.result c.assemble.ensures.array
     (λ made of. subst (Is made) (ap meaning same ∙ fitted_meant c.args.array.now schema meant rows c.in-None.is is held) of)
+
+pub assemble-requires-clause-margins : goal.assemble-requires-clause-margins
+assemble-requires-clause-margins c = overlap_each c.args.schema.now c.margins_of-margins.result.items c.margins_of-margins.ensures
+
+pub broken_array-requires-clause-margins : goal.broken_array-requires-clause-margins
+broken_array-requires-clause-margins c = overlap_each c.args.schema.now c.margins_of-margins.result.items c.margins_of-margins.ensures

@@ -19,3 +19,9 @@ returns c = λ rl rr.
     at_end c.both_have.result c.merging.merged c.merging.left.items c.merging.right.items (put_all c.args.left c.args.right) c.move_all.new.merged c.move_all-2.new.merged c.merging-test.false c.both_have.ensures merged.left_rises
     (merged.same ∙ ap (λ (zs : List Row). put_all zs right) from_left ∙ ap (put_all c.args.left) from_right)
     c.in_ok-move_all.ensures c.in_ok-move_all-2.ensures
+
+pub move_next-requires-clause-left : goal.move_next-requires-clause-left
+move_next-requires-clause-left c = (c.both_have.ensures.0 c.merging-test.true).0
+
+pub move_next-requires-clause-right : goal.move_next-requires-clause-right
+move_next-requires-clause-right c = (c.both_have.ensures.0 c.merging-test.true).1

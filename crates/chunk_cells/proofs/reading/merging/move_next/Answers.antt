@@ -1,4 +1,5 @@
 use Rattle.std.proofs.Common.{drop, sym}
+use Rattle.chunk_cells.proofs.RestLaws.{fewer_right}
 use Rattle.chunk_cells.proofs.MergeLaws.{on_ok, head, left_moves, right_moves, right_goes}
 use Rattle.chunk_cells.proofs.reading.merging.move_next.Goals as goal
 
@@ -21,3 +22,6 @@ returns-in-Equal-clause-merged c =
     let left = c.args.left.now.items in
     let right = c.args.right.now.items in
     right_goes c.args.merged.now left right c.pop_front.new.self.items c.index.result.now c.index-2.result.now (drop 1 left) (drop 1 right) (head left c.index.result.now c.requires.left c.index.ensures) (head right c.index-2.result.now c.requires.right c.index-2.ensures) (sym c.in-Equal.ensures) c.pop_front.ensures.rest
+
+pub returns-in-Equal-clause-fewer : goal.returns-in-Equal-clause-fewer
+returns-in-Equal-clause-fewer c = fewer_right c.args.left.now.items c.args.right.now.items c.pop_front.new.self.items c.requires.right c.pop_front.ensures.rest
