@@ -95,6 +95,23 @@ fn write_title(out: &mut Bytes, words: &[u8], name: &Name) -> Result<(), Memory>
     out.push(b' ')
 }
 
+/// Adds `create array` with a name and a schema.
+fn write_create(out: &mut Bytes, name: &Name, schema: &SchemaText) -> Result<(), Memory>
+    ensures { OnOk result (out.new ≡ out.old ++ (codes "create array " ++ name.now ++ codes " " ++ shape_bytes schema.now)) }
+{
+    write_title(out, b"create array ", name)?;
+    write_schema(out, schema)
+}
+
+/// Adds a name with its version.
+fn write_version(out: &mut Bytes, name: &Name, number: i64) -> Result<(), Memory>
+    ensures { OnOk result (out.new ≡ out.old ++ (name.now ++ codes "@" ++ signed_decimal number)) }
+{
+    out.extend(name.as_slice())?;
+    out.push(b'@')?;
+    write_number(out, number)
+}
+
 /// Adds the printed forms of arguments, with commas between.
 #[cycle(print)]
 fn write_trees(out: &mut Bytes, trees: &[Tree]) -> Result<(), Memory>
@@ -111,58 +128,80 @@ fn write_trees(out: &mut Bytes, trees: &[Tree]) -> Result<(), Memory>
     Ok(())
 }
 
+/// Adds a name with arguments in brackets.
+#[cycle(print)]
+fn write_call(out: &mut Bytes, name: &Name, arguments: &[Tree]) -> Result<(), Memory>
+    ensures { OnOk result
+        (out.new ≡ out.old ++ (name.now ++ codes "(" ++ join_with_byte 44 (all_printed (to_terms arguments.now)) ++ codes ")")) }
+{
+    out.extend(name.as_slice())?;
+    out.push(b'(')?;
+    write_trees(out, arguments)?;
+    out.push(b')')
+}
+
+/// Adds a tree with the name that it is given.
+#[cycle(print)]
+fn write_renamed(out: &mut Bytes, inner: &Tree, name: &Name) -> Result<(), Memory>
+    ensures { OnOk result (out.new ≡ out.old ++ (printed inner.now ++ codes " as " ++ name.now)) }
+{
+    write_tree(out, inner)?;
+    out.extend(b" as ")?;
+    out.extend(name.as_slice())
+}
+
+/// Adds these words and a tree.
+#[cycle(print)]
+fn write_prefixed(out: &mut Bytes, words: &[u8], inner: &Tree) -> Result<(), Memory>
+    ensures { OnOk result (out.new ≡ out.old ++ (words.now ++ printed inner.now)) }
+{
+    out.extend(words)?;
+    write_tree(out, inner)
+}
+
+/// Adds two trees with an operator between.
+#[cycle(print)]
+fn write_binary(out: &mut Bytes, op: BinaryOp, left: &Tree, right: &Tree) -> Result<(), Memory>
+    ensures { OnOk result
+        (out.new ≡ out.old ++ (printed left.now ++ codes " " ++ op_bytes op ++ codes " " ++ printed right.now)) }
+{
+    write_tree(out, left)?;
+    write_op(out, op)?;
+    write_tree(out, right)
+}
+
+/// Adds a tree in brackets.
+#[cycle(print)]
+fn write_grouped(out: &mut Bytes, inner: &Tree) -> Result<(), Memory>
+    ensures { OnOk result (out.new ≡ out.old ++ (codes "(" ++ printed inner.now ++ codes ")")) }
+{
+    out.push(b'(')?;
+    write_tree(out, inner)?;
+    out.push(b')')
+}
+
 /// Adds the printed form of a tree.
 #[cycle(print)]
 fn write_tree(out: &mut Bytes, tree: &Tree) -> Result<(), Memory>
     ensures { OnOk result (out.new ≡ out.old ++ printed tree.now) }
 {
     match &tree.node {
-        Node::Create(name, schema) => {
-            write_title(out, b"create array ", name)?;
-            write_schema(out, schema)
-        }
+        Node::Create(name, schema) => write_create(out, name, schema),
         Node::Number(number) => write_number(out, *number),
         Node::Text(text) => write_text(out, text.as_slice()),
         Node::Truth(truth) => out.extend(truth_text(*truth)),
         Node::Null => out.extend(b"null"),
         Node::Missing(code) => write_code(out, code.number()),
         Node::Ref(name) => out.extend(name.as_slice()),
-        Node::Version(name, number) => {
-            out.extend(name.as_slice())?;
-            out.push(b'@')?;
-            write_number(out, *number)
-        }
-        Node::Call(name, arguments) => {
-            out.extend(name.as_slice())?;
-            out.push(b'(')?;
-            write_trees(out, arguments)?;
-            out.push(b')')
-        }
+        Node::Version(name, number) => write_version(out, name, *number),
+        Node::Call(name, arguments) => write_call(out, name, arguments),
         Node::Schema(schema) => write_schema(out, schema),
         Node::Star => out.push(b'*'),
-        Node::As(inner, name) => {
-            write_tree(out, inner)?;
-            out.extend(b" as ")?;
-            out.extend(name.as_slice())
-        }
-        Node::Not(inner) => {
-            out.extend(b"not ")?;
-            write_tree(out, inner)
-        }
-        Node::Minus(inner) => {
-            out.extend(b"- ")?;
-            write_tree(out, inner)
-        }
-        Node::Binary(op, left, right) => {
-            write_tree(out, left)?;
-            write_op(out, *op)?;
-            write_tree(out, right)
-        }
-        Node::Group(inner) => {
-            out.push(b'(')?;
-            write_tree(out, inner)?;
-            out.push(b')')
-        }
+        Node::As(inner, name) => write_renamed(out, inner, name),
+        Node::Not(inner) => write_prefixed(out, b"not ", inner),
+        Node::Minus(inner) => write_prefixed(out, b"- ", inner),
+        Node::Binary(op, left, right) => write_binary(out, *op, left, right),
+        Node::Group(inner) => write_grouped(out, inner),
     }
 }
 
