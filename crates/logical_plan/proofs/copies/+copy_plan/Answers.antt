@@ -1,75 +1,163 @@
-use Rattle.std.proofs.Common.{◌≡◌, ◌∙◌, IfOk, ap, sym, subst}
-use Rattle.logical_plan.specs.Query.{Query, filtered, applied, projected, between, subarray, sliced, joined, crossed, redimensioned, regridded, windowed, aggregated}
+use Rattle.std.proofs.Common.{◌≡◌, ◌∙◌, ◌+◌, IfOk, ap, sym, subst, arith}
+use Rattle.logical_plan.specs.Query.{Query, query_size}
 use Rattle.logical_plan.specs.Inner.QueryView.{query_of}
 use Rattle.logical_plan.proofs.copies.+copy_plan.Goals as goal
 
-pub copy_node-returns-in_ok-copy_source-in-Filter : goal.copy_node-returns-in_ok-copy_source-in-Filter
-copy_node-returns-in_ok-copy_source-in-Filter t c =
-    subst (λ (q : Query). IfOk c.filter_of.result (λ node. query_of node ≡ q))
-    (ap (λ (s : Query). filtered s c.in-Filter.test) c.in_ok-copy_source-in-Filter.ensures ∙ sym (ap query_of c.in-Filter.is)) c.filter_of.ensures
+pub copy_plan-returns-in-Build : goal.copy_plan-returns-in-Build
+copy_plan-returns-in-Build t c =
+    subst (λ (q : Query). IfOk c.copy_build.result (λ p. p ≡ q)) (sym (ap query_of c.in-Build.is) ∙ c.plan.view_is) c.copy_build.ensures
 
-pub copy_node-returns-in_ok-copy_source-in-Apply : goal.copy_node-returns-in_ok-copy_source-in-Apply
-copy_node-returns-in_ok-copy_source-in-Apply t c =
-    subst (λ (q : Query). IfOk c.apply_of.result (λ node. query_of node ≡ q))
-    (ap (λ (s : Query). applied s c.in-Apply.values) c.in_ok-copy_source-in-Apply.ensures ∙ sym (ap query_of c.in-Apply.is)) c.apply_of.ensures
+pub copy_plan-returns-in-Literal : goal.copy_plan-returns-in-Literal
+copy_plan-returns-in-Literal t c =
+    subst (λ (q : Query). IfOk c.copy_literal.result (λ p. p ≡ q)) (sym (ap query_of c.in-Literal.is) ∙ c.plan.view_is) c.copy_literal.ensures
 
-pub copy_node-returns-in_ok-copy_source-in-Project : goal.copy_node-returns-in_ok-copy_source-in-Project
-copy_node-returns-in_ok-copy_source-in-Project t c =
-    subst (λ (q : Query). IfOk c.project_of.result (λ node. query_of node ≡ q))
-    (ap (λ (s : Query). projected s c.in-Project.places) c.in_ok-copy_source-in-Project.ensures ∙ sym (ap query_of c.in-Project.is)) c.project_of.ensures
+pub copy_plan-returns-in-Scan : goal.copy_plan-returns-in-Scan
+copy_plan-returns-in-Scan t c =
+    subst (λ (q : Query). IfOk c.copy_scan.result (λ p. p ≡ q)) (sym (ap query_of c.in-Scan.is) ∙ c.plan.view_is) c.copy_scan.ensures
 
-pub copy_node-returns-in_ok-copy_source-in-Between : goal.copy_node-returns-in_ok-copy_source-in-Between
-copy_node-returns-in_ok-copy_source-in-Between t c =
-    subst (λ (q : Query). IfOk c.between_of.result (λ node. query_of node ≡ q))
-    (ap (λ (s : Query). between s c.in-Between.area) c.in_ok-copy_source-in-Between.ensures ∙ sym (ap query_of c.in-Between.is)) c.between_of.ensures
+pub copy_plan-returns-in-Filter : goal.copy_plan-returns-in-Filter
+copy_plan-returns-in-Filter t c =
+    subst (λ (q : Query). IfOk c.filter_of.result (λ p. p ≡ q)) (sym (ap query_of c.in-Filter.is) ∙ c.plan.view_is)
+    (c.filter_of.ensures _ c.copy_source.ensures)
 
-pub copy_node-returns-in_ok-copy_source-in-Subarray : goal.copy_node-returns-in_ok-copy_source-in-Subarray
-copy_node-returns-in_ok-copy_source-in-Subarray t c =
-    subst (λ (q : Query). IfOk c.subarray_of.result (λ node. query_of node ≡ q))
-    (ap (λ (s : Query). subarray s c.in-Subarray.area) c.in_ok-copy_source-in-Subarray.ensures ∙ sym (ap query_of c.in-Subarray.is)) c.subarray_of.ensures
+pub copy_plan-returns-in-Apply : goal.copy_plan-returns-in-Apply
+copy_plan-returns-in-Apply t c =
+    subst (λ (q : Query). IfOk c.apply_of.result (λ p. p ≡ q)) (sym (ap query_of c.in-Apply.is) ∙ c.plan.view_is)
+    (c.apply_of.ensures _ c.copy_source-in-Apply.ensures)
 
-pub copy_node-returns-in_ok-copy_source-in-Slice : goal.copy_node-returns-in_ok-copy_source-in-Slice
-copy_node-returns-in_ok-copy_source-in-Slice t c =
-    subst (λ (q : Query). IfOk c.slice_of.result (λ node. query_of node ≡ q))
-    (ap (λ (s : Query). sliced s c.in-Slice.fixed) c.in_ok-copy_source-in-Slice.ensures ∙ sym (ap query_of c.in-Slice.is)) c.slice_of.ensures
+pub copy_plan-returns-in-Project : goal.copy_plan-returns-in-Project
+copy_plan-returns-in-Project t c =
+    subst (λ (q : Query). IfOk c.project_of.result (λ p. p ≡ q)) (sym (ap query_of c.in-Project.is) ∙ c.plan.view_is)
+    (c.project_of.ensures _ c.copy_source-in-Project.ensures)
 
-pub copy_node-returns-in_ok-copy_source-in-Redimension : goal.copy_node-returns-in_ok-copy_source-in-Redimension
-copy_node-returns-in_ok-copy_source-in-Redimension t c =
-    subst (λ (q : Query). IfOk c.redimension_of.result (λ node. query_of node ≡ q))
-    (ap (λ (s : Query). redimensioned s c.in-Redimension.schema c.in-Redimension.aggregates) c.in_ok-copy_source-in-Redimension.ensures
-    ∙ sym (ap query_of c.in-Redimension.is)) c.redimension_of.ensures
+pub copy_plan-returns-in-Between : goal.copy_plan-returns-in-Between
+copy_plan-returns-in-Between t c =
+    subst (λ (q : Query). IfOk c.between_of.result (λ p. p ≡ q)) (sym (ap query_of c.in-Between.is) ∙ c.plan.view_is)
+    (c.between_of.ensures _ c.copy_source-in-Between.ensures)
 
-pub copy_node-returns-in_ok-copy_source-in-Regrid : goal.copy_node-returns-in_ok-copy_source-in-Regrid
-copy_node-returns-in_ok-copy_source-in-Regrid t c =
-    subst (λ (q : Query). IfOk c.regrid_of.result (λ node. query_of node ≡ q))
-    (ap (λ (s : Query). regridded s c.in-Regrid.sizes c.in-Regrid.aggregates) c.in_ok-copy_source-in-Regrid.ensures
-    ∙ sym (ap query_of c.in-Regrid.is)) c.regrid_of.ensures
+pub copy_plan-returns-in-Subarray : goal.copy_plan-returns-in-Subarray
+copy_plan-returns-in-Subarray t c =
+    subst (λ (q : Query). IfOk c.subarray_of.result (λ p. p ≡ q)) (sym (ap query_of c.in-Subarray.is) ∙ c.plan.view_is)
+    (c.subarray_of.ensures _ c.copy_source-in-Subarray.ensures)
 
-pub copy_node-returns-in_ok-copy_source-in-Window : goal.copy_node-returns-in_ok-copy_source-in-Window
-copy_node-returns-in_ok-copy_source-in-Window t c =
-    subst (λ (q : Query). IfOk c.window_of.result (λ node. query_of node ≡ q))
-    (ap (λ (s : Query). windowed s c.in-Window.reach c.in-Window.aggregates) c.in_ok-copy_source-in-Window.ensures ∙ sym (ap query_of c.in-Window.is))
-    c.window_of.ensures
+pub copy_plan-returns-in-Slice : goal.copy_plan-returns-in-Slice
+copy_plan-returns-in-Slice t c =
+    subst (λ (q : Query). IfOk c.slice_of.result (λ p. p ≡ q)) (sym (ap query_of c.in-Slice.is) ∙ c.plan.view_is)
+    (c.slice_of.ensures _ c.copy_source-in-Slice.ensures)
 
-pub copy_node-returns-in_ok-copy_source-in-Aggregate : goal.copy_node-returns-in_ok-copy_source-in-Aggregate
-copy_node-returns-in_ok-copy_source-in-Aggregate t c =
-    subst (λ (q : Query). IfOk c.aggregate_of.result (λ node. query_of node ≡ q))
-    (ap (λ (s : Query). aggregated s c.in-Aggregate.aggregates c.in-Aggregate.dimensions) c.in_ok-copy_source-in-Aggregate.ensures
-    ∙ sym (ap query_of c.in-Aggregate.is)) c.aggregate_of.ensures
+pub copy_plan-returns-in-Redimension : goal.copy_plan-returns-in-Redimension
+copy_plan-returns-in-Redimension t c =
+    subst (λ (q : Query). IfOk c.redimension_of.result (λ p. p ≡ q)) (sym (ap query_of c.in-Redimension.is) ∙ c.plan.view_is)
+    (c.redimension_of.ensures _ c.copy_source-in-Redimension.ensures)
 
-pub copy_node-returns-in_ok-copy_source-in-CrossJoin-2 : goal.copy_node-returns-in_ok-copy_source-in-CrossJoin-2
-copy_node-returns-in_ok-copy_source-in-CrossJoin-2 t c =
-    let left = c.in_ok-copy_source-in-CrossJoin.ensures in
-    let right = c.in_ok-copy_source-in-CrossJoin-2.ensures in
-    subst (λ (q : Query). IfOk c.cross_join_of.result (λ node. query_of node ≡ q))
-    (ap (λ (l : Query). crossed l c.in_ok-copy_source-in-CrossJoin-2.field-0.value c.in-CrossJoin.pairs c.in-CrossJoin.schema) left
-    ∙ ap (λ (r : Query). crossed c.in-CrossJoin.left.value r c.in-CrossJoin.pairs c.in-CrossJoin.schema) right ∙ sym (ap query_of c.in-CrossJoin.is))
-    c.cross_join_of.ensures
+pub copy_plan-returns-in-Regrid : goal.copy_plan-returns-in-Regrid
+copy_plan-returns-in-Regrid t c =
+    subst (λ (q : Query). IfOk c.regrid_of.result (λ p. p ≡ q)) (sym (ap query_of c.in-Regrid.is) ∙ c.plan.view_is)
+    (c.regrid_of.ensures _ c.copy_source-in-Regrid.ensures)
 
-pub copy_node-returns-in_ok-copy_source-in-Join-2 : goal.copy_node-returns-in_ok-copy_source-in-Join-2
-copy_node-returns-in_ok-copy_source-in-Join-2 t c =
-    let left = c.in_ok-copy_source-in-Join.ensures in
-    let right = c.in_ok-copy_source-in-Join-2.ensures in
-    subst (λ (q : Query). IfOk c.join_of.result (λ node. query_of node ≡ q))
-    (ap (λ (l : Query). joined l c.in_ok-copy_source-in-Join-2.field-0.value c.in-Join.schema) left
-    ∙ ap (λ (r : Query). joined c.in-Join.left.value r c.in-Join.schema) right ∙ sym (ap query_of c.in-Join.is)) c.join_of.ensures
+pub copy_plan-returns-in-Window : goal.copy_plan-returns-in-Window
+copy_plan-returns-in-Window t c =
+    subst (λ (q : Query). IfOk c.window_of.result (λ p. p ≡ q)) (sym (ap query_of c.in-Window.is) ∙ c.plan.view_is)
+    (c.window_of.ensures _ c.copy_source-in-Window.ensures)
+
+pub copy_plan-returns-in-Aggregate : goal.copy_plan-returns-in-Aggregate
+copy_plan-returns-in-Aggregate t c =
+    subst (λ (q : Query). IfOk c.aggregate_of.result (λ p. p ≡ q)) (sym (ap query_of c.in-Aggregate.is) ∙ c.plan.view_is)
+    (c.aggregate_of.ensures _ c.copy_source-in-Aggregate.ensures)
+
+pub copy_plan-returns-in-Join : goal.copy_plan-returns-in-Join
+copy_plan-returns-in-Join t c =
+    let made = c.join_of.ensures _ _ c.copy_source-in-Join.ensures c.copy_source-in-Join-2.ensures in
+    subst (λ (q : Query). IfOk c.join_of.result (λ p. p ≡ q)) (sym (ap query_of c.in-Join.is) ∙ c.plan.view_is) made
+
+pub copy_plan-returns-in-CrossJoin : goal.copy_plan-returns-in-CrossJoin
+copy_plan-returns-in-CrossJoin t c =
+    let made = c.cross_join_of.ensures _ _ c.copy_source-in-CrossJoin.ensures c.copy_source-in-CrossJoin-2.ensures in
+    subst (λ (q : Query). IfOk c.cross_join_of.result (λ p. p ≡ q)) (sym (ap query_of c.in-CrossJoin.is) ∙ c.plan.view_is) made
+
+pub copy_source-returns : goal.copy_source-returns
+copy_source-returns t c = subst (λ (q : Query). IfOk c.boxed.result (λ b. b.value ≡ q)) c.deref.ensures (c.boxed.ensures _ c.copy_plan.ensures)
+
+pub copy_plan-copy_source-requires : goal.copy_plan-copy_source-requires
+copy_plan-copy_source-requires t c =
+    let whole : query_size c.in-Filter.source.value + 1 ≡ query_size c.args.plan.now = ap query_size (sym (ap query_of c.in-Filter.is) ∙ c.plan.view_is)
+    in
+    (omega (arith, whole, c.decreases), tt)
+
+pub copy_plan-copy_source-requires-in-Apply : goal.copy_plan-copy_source-requires-in-Apply
+copy_plan-copy_source-requires-in-Apply t c =
+    let whole : query_size c.in-Apply.source.value + 1 ≡ query_size c.args.plan.now = ap query_size (sym (ap query_of c.in-Apply.is) ∙ c.plan.view_is)
+    in
+    (omega (arith, whole, c.decreases), tt)
+
+pub copy_plan-copy_source-requires-in-Project : goal.copy_plan-copy_source-requires-in-Project
+copy_plan-copy_source-requires-in-Project t c =
+    let whole : query_size c.in-Project.source.value + 1 ≡ query_size c.args.plan.now = ap query_size (sym (ap query_of c.in-Project.is) ∙ c.plan.view_is)
+    in
+    (omega (arith, whole, c.decreases), tt)
+
+pub copy_plan-copy_source-requires-in-Between : goal.copy_plan-copy_source-requires-in-Between
+copy_plan-copy_source-requires-in-Between t c =
+    let whole : query_size c.in-Between.source.value + 1 ≡ query_size c.args.plan.now = ap query_size (sym (ap query_of c.in-Between.is) ∙ c.plan.view_is)
+    in
+    (omega (arith, whole, c.decreases), tt)
+
+pub copy_plan-copy_source-requires-in-Subarray : goal.copy_plan-copy_source-requires-in-Subarray
+copy_plan-copy_source-requires-in-Subarray t c =
+    let whole : query_size c.in-Subarray.source.value + 1 ≡ query_size c.args.plan.now = ap query_size (sym (ap query_of c.in-Subarray.is) ∙ c.plan.view_is)
+    in
+    (omega (arith, whole, c.decreases), tt)
+
+pub copy_plan-copy_source-requires-in-Slice : goal.copy_plan-copy_source-requires-in-Slice
+copy_plan-copy_source-requires-in-Slice t c =
+    let whole : query_size c.in-Slice.source.value + 1 ≡ query_size c.args.plan.now = ap query_size (sym (ap query_of c.in-Slice.is) ∙ c.plan.view_is)
+    in
+    (omega (arith, whole, c.decreases), tt)
+
+pub copy_plan-copy_source-requires-in-Redimension : goal.copy_plan-copy_source-requires-in-Redimension
+copy_plan-copy_source-requires-in-Redimension t c =
+    let whole : query_size c.in-Redimension.source.value + 1 ≡ query_size c.args.plan.now = ap query_size (sym (ap query_of c.in-Redimension.is) ∙ c.plan.view_is)
+    in
+    (omega (arith, whole, c.decreases), tt)
+
+pub copy_plan-copy_source-requires-in-Regrid : goal.copy_plan-copy_source-requires-in-Regrid
+copy_plan-copy_source-requires-in-Regrid t c =
+    let whole : query_size c.in-Regrid.source.value + 1 ≡ query_size c.args.plan.now = ap query_size (sym (ap query_of c.in-Regrid.is) ∙ c.plan.view_is)
+    in
+    (omega (arith, whole, c.decreases), tt)
+
+pub copy_plan-copy_source-requires-in-Window : goal.copy_plan-copy_source-requires-in-Window
+copy_plan-copy_source-requires-in-Window t c =
+    let whole : query_size c.in-Window.source.value + 1 ≡ query_size c.args.plan.now = ap query_size (sym (ap query_of c.in-Window.is) ∙ c.plan.view_is)
+    in
+    (omega (arith, whole, c.decreases), tt)
+
+pub copy_plan-copy_source-requires-in-Aggregate : goal.copy_plan-copy_source-requires-in-Aggregate
+copy_plan-copy_source-requires-in-Aggregate t c =
+    let whole : query_size c.in-Aggregate.source.value + 1 ≡ query_size c.args.plan.now = ap query_size (sym (ap query_of c.in-Aggregate.is) ∙ c.plan.view_is)
+    in
+    (omega (arith, whole, c.decreases), tt)
+
+pub copy_plan-copy_source-requires-in-Join : goal.copy_plan-copy_source-requires-in-Join
+copy_plan-copy_source-requires-in-Join t c =
+    let whole : query_size c.in-Join.left.value + query_size c.in-Join.right.value + 1 ≡ query_size c.args.plan.now
+    = ap query_size (sym (ap query_of c.in-Join.is) ∙ c.plan.view_is) in
+    (omega (arith, whole, c.decreases), tt)
+
+pub copy_plan-copy_source-requires-in-Join-2 : goal.copy_plan-copy_source-requires-in-Join-2
+copy_plan-copy_source-requires-in-Join-2 t c =
+    let whole : query_size c.in-Join.left.value + query_size c.in-Join.right.value + 1 ≡ query_size c.args.plan.now
+    = ap query_size (sym (ap query_of c.in-Join.is) ∙ c.plan.view_is) in
+    (omega (arith, whole, c.decreases), tt)
+
+pub copy_plan-copy_source-requires-in-CrossJoin : goal.copy_plan-copy_source-requires-in-CrossJoin
+copy_plan-copy_source-requires-in-CrossJoin t c =
+    let whole : query_size c.in-CrossJoin.left.value + query_size c.in-CrossJoin.right.value + 1 ≡ query_size c.args.plan.now
+    = ap query_size (sym (ap query_of c.in-CrossJoin.is) ∙ c.plan.view_is) in
+    (omega (arith, whole, c.decreases), tt)
+
+pub copy_plan-copy_source-requires-in-CrossJoin-2 : goal.copy_plan-copy_source-requires-in-CrossJoin-2
+copy_plan-copy_source-requires-in-CrossJoin-2 t c =
+    let whole : query_size c.in-CrossJoin.left.value + query_size c.in-CrossJoin.right.value + 1 ≡ query_size c.args.plan.now
+    = ap query_size (sym (ap query_of c.in-CrossJoin.is) ∙ c.plan.view_is) in
+    (omega (arith, whole, c.decreases), tt)
