@@ -4,6 +4,7 @@ ghost use Rattle.logical_plan.specs.PlanSchema.{schema_of};
 ghost use Rattle.logical_plan.specs.Typing.{IsTyped};
 ghost use Rattle.plan_needs.specs.Needs.{is_scan, need, needs};
 ghost use Rattle.plan_needs.specs.Sides.{of_aggregate, of_left, of_regrid, of_right, of_slice, of_subarray, of_window, whole};
+ghost use Rattle.plan_needs.specs.Sides.{Sides as BoxSides};
 
 use crate::boxes::{
     are_near, of_aggregate, of_between, of_left, of_regrid, of_right, of_slice, of_subarray,
@@ -129,7 +130,62 @@ fn of_groups(
     Ok(of_aggregate(&schema_of(alloc, source)?, places, sides))
 }
 
+/// Adds the box of each leaf of a source of which these sides are needed, from left to right.
+#[cycle(push_needs)]
+fn push_source(
+    alloc: Global,
+    found: &mut List<Bounds>,
+    source: &Plan,
+    sides: Result<Sides, Memory>,
+) -> Result<(), Memory>
+    requires { IsTyped source.now }
+    ensures { (needed : BoxSides) → IfOk sides (λ s. s.items ≡ needed) → OnOk result (found.new ≡ found.old ++ needs source.now needed) }
+{
+    match sides {
+        Ok(sides) => push_needs(alloc, found, source, &sides),
+        Err(Memory) => Err(Memory),
+    }
+}
+
+/// Adds the box of each leaf of two sources of which the same sides are needed.
+#[cycle(push_needs)]
+fn push_both(
+    alloc: Global,
+    found: &mut List<Bounds>,
+    left: &Plan,
+    right: &Plan,
+    sides: &Sides,
+) -> Result<(), Memory>
+    requires left { IsTyped left.now }
+    requires right { IsTyped right.now }
+    ensures { OnOk result (found.new ≡ found.old ++ (needs left.now sides.now.items ++ needs right.now sides.now.items)) }
+{
+    push_needs(alloc, found, left, sides)?;
+    push_needs(alloc, found, right, sides)
+}
+
+/// Adds the box of each leaf of the sources of a cross join.
+#[cycle(push_needs)]
+fn push_crossed(
+    alloc: Global,
+    found: &mut List<Bounds>,
+    left: &Plan,
+    right: &Plan,
+    pairs: &List<Pair>,
+    sides: &Sides,
+) -> Result<(), Memory>
+    requires left { IsTyped left.now }
+    requires right { IsTyped right.now }
+    ensures { OnOk result (found.new ≡ found.old ++ (needs left.now (of_left (schema_of left.now).dimensions sides.now.items)
+        ++ needs right.now (of_right (schema_of left.now).dimensions (schema_of right.now).dimensions pairs.now sides.now.items))) }
+{
+    push_source(alloc, found, left, of_first(alloc, left, sides))?;
+    let second = of_second(alloc, left, right, pairs, sides);
+    push_source(alloc, found, right, second)
+}
+
 /// Adds the box of each leaf, from left to right.
+#[cycle(push_needs)]
 fn push_needs(
     alloc: Global,
     found: &mut List<Bounds>,
@@ -148,50 +204,30 @@ fn push_needs(
             push_needs(alloc, found, source, &of_between(area, sides))
         }
         PlanNode::Subarray(source, area) => {
-            push_needs(alloc, found, source, &of_part(alloc, source, area, sides)?)
+            push_source(alloc, found, source, of_part(alloc, source, area, sides))
         }
         PlanNode::Slice(source, fixed) => {
-            push_needs(
-                alloc,
-                found,
-                source,
-                &of_fixed(alloc, source, fixed, sides)?,
-            )
+            push_source(alloc, found, source, of_fixed(alloc, source, fixed, sides))
         }
-        PlanNode::Join(left, right, _) => {
-            push_needs(alloc, found, left, sides)?;
-            push_needs(alloc, found, right, sides)
-        }
+        PlanNode::Join(left, right, _) => push_both(alloc, found, left, right, sides),
         PlanNode::CrossJoin(left, right, pairs, _) => {
-            push_needs(alloc, found, left, &of_first(alloc, left, sides)?)?;
-            let second = of_second(alloc, left, right, pairs, sides)?;
-            push_needs(alloc, found, right, &second)
+            push_crossed(alloc, found, left, right, pairs, sides)
         }
         PlanNode::Redimension(source, _, _) => {
-            push_needs(alloc, found, source, &of_all(alloc, source)?)
+            push_source(alloc, found, source, of_all(alloc, source))
         }
         PlanNode::Regrid(source, sizes, _) => {
-            push_needs(
-                alloc,
-                found,
-                source,
-                &of_blocks(alloc, source, sizes, sides)?,
-            )
+            push_source(alloc, found, source, of_blocks(alloc, source, sizes, sides))
         }
         PlanNode::Window(source, reach, _) => {
-            push_needs(
-                alloc,
-                found,
-                source,
-                &of_reach(alloc, source, reach, sides)?,
-            )
+            push_source(alloc, found, source, of_reach(alloc, source, reach, sides))
         }
         PlanNode::Aggregate(source, _, places) => {
-            push_needs(
+            push_source(
                 alloc,
                 found,
                 source,
-                &of_groups(alloc, source, places, sides)?,
+                of_groups(alloc, source, places, sides),
             )
         }
     }
