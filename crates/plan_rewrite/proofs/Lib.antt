@@ -1,7 +1,9 @@
 pub mod BoxSteps
 pub mod ItemPlaces
+pub mod KeptSteps
 pub mod ProjectSteps
 pub mod SameLaws
+pub mod SettleSteps
 pub mod Settling
 pub mod Steps
 pub mod ValidLess

@@ -1,4 +1,5 @@
 pub mod Pending
 pub mod Settling
+pub mod Shapes
 pub mod Trimmed
 pub mod Wide

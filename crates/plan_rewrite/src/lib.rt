@@ -4,5 +4,6 @@
 mod nodes;
 mod places;
 mod rewriting;
+mod shapes;
 
 pub use rewriting::{rewrite, rewritten};

@@ -1,5 +1,5 @@
 //! Places of attributes that a project names.
-ghost use Rattle.std.specs.Prelude.{◌≡◌, ◌++◌, nat_lt, slice_get, IfOk, OnOk};
+ghost use Rattle.std.specs.Prelude.{◌≡◌, ◌+◌, ◌++◌, [], ◌∷◌, if◌then◌else◌, nat_lt, slice_get, IfOk, OnOk};
 ghost use Rattle.std.specs.List.{list_all};
 ghost use Rattle.std.specs.Option.{option_copied, option_to_list};
 ghost use Rattle.logical_plan.specs.BoxOps.{items_at};
@@ -65,28 +65,48 @@ fn lowered(places: &List<u32>, left_out: u32) -> Result<List<u32>, Memory>
     Ok(lowered_ones)
 }
 
+/// The place after another one. One beyond what a `u32` counts is as good as no memory.
+fn next_place(place: u32) -> Result<u32, Memory>
+    ensures { IfOk result (λ next. next ≡ place + 1) }
+{
+    place.checked_add(1).ok_or(Memory)
+}
+
+/// Adds an item whose place is `first` if it is named, and lowers the places after it if it isn't. The place of the next item.
+fn push_named<T: Copies + Drop>(
+    out: &mut List<T>,
+    item: &T,
+    first: u32,
+    places: &mut List<u32>,
+) -> Result<u32, Memory>
+    ensures items { OnOk result (out.new ≡ out.old ++ kept first (item.now ∷ []) places.old) }
+    ensures places { OnOk result (places.new ≡ relocated first (item.now ∷ []) places.old) }
+    ensures next { IfOk result (λ next. next ≡ (if is_named first places.old then first + 1 else first)) }
+{
+    if is_named(places, first as usize) {
+        out.push(item.copy()?)?;
+        next_place(first)
+    } else {
+        *places = lowered(places, first)?;
+        Ok(first)
+    }
+}
+
 /// Adds the named ones of some items, of which the first has the place `first`. The places change as others are left out.
 fn push_kept<T: Copies + Drop>(
     out: &mut List<T>,
     items: &[T],
     first: u32,
-    places: List<u32>,
-) -> Result<List<u32>, Memory>
-    ensures items { OnOk result (out.new ≡ out.old ++ kept first items.now places) }
-    ensures places { IfOk result (λ rest. rest ≡ relocated first items.now places) }
+    places: &mut List<u32>,
+) -> Result<(), Memory>
+    ensures items { OnOk result (out.new ≡ out.old ++ kept first items.now places.old) }
+    ensures places { OnOk result (places.new ≡ relocated first items.now places.old) }
 {
     match items {
-        [] => Ok(places),
+        [] => Ok(()),
         [item, items @ ..] => {
-            if is_named(&places, first as usize) {
-                out.push(item.copy()?)?;
-                match first.checked_add(1) {
-                    Some(next) => push_kept(out, items, next, places),
-                    None => Err(Memory),
-                }
-            } else {
-                push_kept(out, items, first, lowered(&places, first)?)
-            }
+            let next = push_named(out, item, first, places)?;
+            push_kept(out, items, next, places)
         }
     }
 }
@@ -101,8 +121,9 @@ pub(crate) fn kept<T: Copies + Drop>(
     ensures items { IfOk result (λ both. both.0 ≡ kept first items.now places.now) }
     ensures places { IfOk result (λ both. both.1 ≡ relocated first items.now places.now) }
 {
+    let mut rest = places.copy()?;
     let mut items_kept = List::new(alloc);
-    let rest = push_kept(&mut items_kept, items.as_slice(), first, places.copy()?)?;
+    push_kept(&mut items_kept, items.as_slice(), first, &mut rest)?;
     Ok((items_kept, rest))
 }
 

@@ -1,0 +1,93 @@
+use Rattle.std.proofs.Common.{◌∙◌, length, ap, refl, rules, subst, sym}
+use Rattle.logical_plan.specs.PlanSchema.{schema_of}
+use Rattle.logical_plan.specs.Query.{Query, filtered, applied, projected, between, subarray, sliced, joined, crossed}
+use Rattle.logical_plan.specs.Query.{redimensioned, regridded, windowed, aggregated}
+use Rattle.logical_plan.specs.Inner.QueryView.{query_of}
+use Rattle.plan_rewrite.specs.Inner.Shapes.{IsOne, IsTwo}
+use Rattle.plan_rewrite.specs.Inner.Trimmed.{names_none}
+use Rattle.plan_rewrite.proofs.SettleSteps.{below}
+use Rattle.plan_rewrite.proofs.shapes.shape_of.Goals as goal
+
+pub returns-in-Build : goal.returns-in-Build
+returns-in-Build c = λ area places. search rules
+
+pub returns-in-Project : goal.returns-in-Project
+returns-in-Project c = sym c.plan.view_is ∙ ap query_of c.in-Project.is ∙ ap (λ (s : Query). projected s c.in-Project.own) (sym c.deref-in-Project.ensures)
+
+pub returns-in-Between : goal.returns-in-Between
+returns-in-Between c = sym c.plan.view_is ∙ ap query_of c.in-Between.is ∙ ap (λ (s : Query). between s c.in-Between.own) (sym c.deref-in-Between.ensures)
+
+pub returns-in-Filter : goal.returns-in-Filter
+returns-in-Filter c =
+    subst (λ (q : Query). IsOne q c.deref.result.now)
+    (ap (λ (s : Query). filtered s c.in-Filter.field-1) c.deref.ensures
+    ∙ sym (ap query_of c.in-Filter.is) ∙ c.plan.view_is)
+    (refl, λ area places. refl)
+
+pub returns-in-Apply : goal.returns-in-Apply
+returns-in-Apply c =
+    subst (λ (q : Query). IsOne q c.deref-in-Apply.result.now)
+    (ap (λ (s : Query). applied s c.in-Apply.field-1) c.deref-in-Apply.ensures
+    ∙ sym (ap query_of c.in-Apply.is) ∙ c.plan.view_is) (
+      refl,
+      λ area places. let first = length (schema_of c.deref-in-Apply.result.now).attributes in
+          below (names_none first places) area places c.deref-in-Apply.result.now c.in-Apply.field-1 first,
+    )
+
+pub returns-in-Subarray : goal.returns-in-Subarray
+returns-in-Subarray c =
+    subst (λ (q : Query). IsOne q c.deref-in-Subarray.result.now)
+    (ap (λ (s : Query). subarray s c.in-Subarray.field-1) c.deref-in-Subarray.ensures
+    ∙ sym (ap query_of c.in-Subarray.is) ∙ c.plan.view_is)
+    (refl, λ area places. refl)
+
+pub returns-in-Slice : goal.returns-in-Slice
+returns-in-Slice c =
+    subst (λ (q : Query). IsOne q c.deref-in-Slice.result.now)
+    (ap (λ (s : Query). sliced s c.in-Slice.field-1) c.deref-in-Slice.ensures
+    ∙ sym (ap query_of c.in-Slice.is) ∙ c.plan.view_is)
+    (refl, λ area places. refl)
+
+pub returns-in-Redimension : goal.returns-in-Redimension
+returns-in-Redimension c =
+    subst (λ (q : Query). IsOne q c.deref-in-Redimension.result.now)
+    (ap (λ (s : Query). redimensioned s c.in-Redimension.field-1 c.in-Redimension.field-2) c.deref-in-Redimension.ensures
+    ∙ sym (ap query_of c.in-Redimension.is) ∙ c.plan.view_is)
+    (refl, λ area places. refl)
+
+pub returns-in-Regrid : goal.returns-in-Regrid
+returns-in-Regrid c =
+    subst (λ (q : Query). IsOne q c.deref-in-Regrid.result.now)
+    (ap (λ (s : Query). regridded s c.in-Regrid.field-1 c.in-Regrid.field-2) c.deref-in-Regrid.ensures
+    ∙ sym (ap query_of c.in-Regrid.is) ∙ c.plan.view_is)
+    (refl, λ area places. refl)
+
+pub returns-in-Window : goal.returns-in-Window
+returns-in-Window c =
+    subst (λ (q : Query). IsOne q c.deref-in-Window.result.now)
+    (ap (λ (s : Query). windowed s c.in-Window.field-1 c.in-Window.field-2) c.deref-in-Window.ensures
+    ∙ sym (ap query_of c.in-Window.is) ∙ c.plan.view_is)
+    (refl, λ area places. refl)
+
+pub returns-in-Aggregate : goal.returns-in-Aggregate
+returns-in-Aggregate c =
+    subst (λ (q : Query). IsOne q c.deref-in-Aggregate.result.now)
+    (ap (λ (s : Query). aggregated s c.in-Aggregate.field-1 c.in-Aggregate.field-2) c.deref-in-Aggregate.ensures
+    ∙ sym (ap query_of c.in-Aggregate.is) ∙ c.plan.view_is)
+    (refl, λ area places. refl)
+
+pub returns-in-Join : goal.returns-in-Join
+returns-in-Join c =
+    subst (λ (q : Query). IsTwo q c.deref-in-Join.result.now c.deref-in-Join-2.result.now)
+    (ap (λ (l : Query). joined l c.deref-in-Join-2.result.now c.in-Join.field-2) c.deref-in-Join.ensures
+    ∙ ap (λ (r : Query). joined c.in-Join.left.value r c.in-Join.field-2) c.deref-in-Join-2.ensures
+    ∙ sym (ap query_of c.in-Join.is) ∙ c.plan.view_is)
+    (refl, λ area places. refl)
+
+pub returns-in-CrossJoin : goal.returns-in-CrossJoin
+returns-in-CrossJoin c =
+    subst (λ (q : Query). IsTwo q c.deref-in-CrossJoin.result.now c.deref-in-CrossJoin-2.result.now)
+    (ap (λ (l : Query). crossed l c.deref-in-CrossJoin-2.result.now c.in-CrossJoin.field-2 c.in-CrossJoin.field-3) c.deref-in-CrossJoin.ensures
+    ∙ ap (λ (r : Query). crossed c.in-CrossJoin.left.value r c.in-CrossJoin.field-2 c.in-CrossJoin.field-3) c.deref-in-CrossJoin-2.ensures
+    ∙ sym (ap query_of c.in-CrossJoin.is) ∙ c.plan.view_is)
+    (refl, λ area places. refl)
