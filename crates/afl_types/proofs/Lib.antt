@@ -1,11 +1,14 @@
 pub mod Agreeing
 pub mod Arguments
 pub mod CreatedPlaces
+pub mod Made
 pub mod NoQuery
 pub mod ParsedLeaves
 pub mod Parts
+pub mod Putting
 pub mod ReadVersions
 pub mod RowsFit
+pub mod Ruled
 pub mod Saying
 pub mod Small
 pub mod Sources

@@ -1,5 +1,5 @@
 -- The plans that checking answers have small schemas.
-use Rattle.std.proofs.Common.{◌≡◌, ◌≤◌, ◌&&◌, ℕ, length, true, false, Bool, Option, Some, None, Ok, IfOk, List, [], ◌∷◌, cond, IfSome, subst}
+use Rattle.std.proofs.Common.{◌≡◌, ◌&&◌, ℕ, length, true, false, Bool, Option, Some, None, Ok, Err, Result, IfOk, List, [], ◌∷◌, cond, IfSome, subst}
 use Rattle.std.specs.Prelude.{nat_le}
 use Rattle.std.specs.List.{AllByRecursion, find, list_all}
 use Rattle.std.specs.Str.{bytes_eq}
@@ -12,8 +12,9 @@ use Rattle.afl_trees.specs.Term.{Term, call, group, Terms, no_terms, and_term}
 use Rattle.logical_plan.specs.PlanSchema.{schema_of}
 use Rattle.logical_plan.specs.Query.{Query, applied, projected, subarray, sliced, joined, crossed, regridded, windowed, aggregated}
 use Rattle.logical_plan.specs.declared.names.NameEntry.{NameEntry}
-use Rattle.check_rules.specs.Checked.{demand, then}
+use Rattle.check_rules.specs.Checked.{Answers, demand, then}
 use Rattle.check_rules.specs.Operators.{operator_named}
+use Rattle.check_rules.specs.declared.rules.fault.TypeFault.{TypeFault}
 use Rattle.check_rules.proofs.RulesHolding.{demanded, thens, of_answer}
 use Rattle.check_rules.specs.NewSchema.{of_new_schema}
 use Rattle.check_rules.specs.Sorts.{to_list}
@@ -148,9 +149,11 @@ module _ (arrays : List NameEntry) (valid : AreValid arrays) where
   pub query_small : (t : Term) (query : Query) → query_of arrays t ≡ Ok query → IsSmall (schema_of query)
   query_small t query e = of_answer HasSmallSchema (query_of arrays t) query (small t) e
 
--- what the rules of operators on a source ask
-pub few_attributes : (arrays : List NameEntry) (t : Term) (query : Query) → AreValid arrays → query_of arrays t ≡ Ok query → length (schema_of query).attributes ≤ 64
-few_attributes arrays t query valid e = (query_small arrays valid t query e).attributes
+-- what the rules of operators on checked sources ask
 
-pub few_dimensions : (arrays : List NameEntry) (t : Term) (query : Query) → AreValid arrays → query_of arrays t ≡ Ok query → length (schema_of query).dimensions ≤ 6
-few_dimensions arrays t query valid e = (query_small arrays valid t query e).dimensions
+pub answer_small : (arrays : List NameEntry) (t : Term) (r : Result Query TypeFault) → AreValid arrays → Answers r (query_of arrays t) → IfOk r HasSmallSchema
+answer_small arrays t (Ok query) valid e = query_small arrays valid t query e
+answer_small arrays t (Err fault) valid e = tt
+
+pub small_ok : (r : Result Query TypeFault) (query : Query) → r ≡ Ok query → IfOk r HasSmallSchema → IsSmall (schema_of query)
+small_ok r query e small = subst (λ (x : Result Query TypeFault). IfOk x HasSmallSchema) e small

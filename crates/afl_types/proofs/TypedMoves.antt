@@ -4,7 +4,7 @@ use Rattle.cell_values.specs.declared.name.Span.{Span}
 use Rattle.cell_values.specs.declared.schema.Schema.{Schema}
 use Rattle.afl_trees.specs.Term.{Term}
 use Rattle.logical_plan.specs.PlanSchema.{schema_of}
-use Rattle.logical_plan.specs.Query.{Query, redimensioned}
+use Rattle.logical_plan.specs.Query.{Query}
 use Rattle.logical_plan.specs.Typing.{IsTyped}
 use Rattle.check_rules.proofs.RulesHolding.{thens, of_answer}
 use Rattle.check_sources.specs.Redimension.{redimension_parts}

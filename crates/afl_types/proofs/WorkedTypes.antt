@@ -1,5 +1,5 @@
 -- Worked examples of the place of a new array's name.
-use Rattle.std.proofs.Common.{◌≡◌, ℕ, List, [], ◌∷◌, ◌++◌, refl}
+use Rattle.std.proofs.Common.{◌≡◌, ℕ, ◌∷◌, ◌++◌, refl}
 use Rattle.std.specs.Prelude.{codes}
 use Rattle.cell_values.specs.declared.name.Span.{Span}
 use Rattle.afl_types.specs.Place.{created_place}

@@ -1,1 +1,4 @@
+pub mod BySchema
 pub mod Limits
+pub mod Putting
+pub mod PuttingStatements

@@ -4,9 +4,12 @@ mod call;
 mod content;
 mod group_calls;
 mod join_calls;
+mod made;
 mod moved_calls;
 mod nested;
 mod query;
+mod shaped_calls;
+mod sources;
 
 pub use call::{Call, OverSource, OverTwo};
 pub use query::query_plan;

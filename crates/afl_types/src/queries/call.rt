@@ -4,9 +4,8 @@ ghost use Rattle.logical_plan.specs.PlanSchema.{schema_of};
 ghost use Rattle.check_rules.specs.Checked.{Answers};
 ghost use Rattle.afl_types.specs.Calls.{are_pairs, call_of, fits_count, fits_two, ruled, ruled_two};
 
-use crate::queries::group_calls::{aggregate_call, regrid_call, window_call};
 use crate::queries::join_calls::{cross_call, join_call};
-use crate::queries::moved_calls::redimension_call;
+use crate::queries::shaped_calls::OverSchema;
 use afl_trees::Tree;
 use cell_values::Span;
 use check_cellwise::{
@@ -115,10 +114,14 @@ impl OverSource {
             OverSource::Between => between_call(alloc, span, source, arguments),
             OverSource::Subarray => subarray_call(alloc, span, source, arguments),
             OverSource::Slice => slice_call(alloc, span, source, arguments),
-            OverSource::Redimension => redimension_call(alloc, text, span, source, arguments),
-            OverSource::Regrid => regrid_call(alloc, span, source, arguments),
-            OverSource::Window => window_call(alloc, span, source, arguments),
-            OverSource::Aggregate => aggregate_call(alloc, span, source, arguments),
+            OverSource::Redimension => OverSchema::Redimension.ruled(
+                alloc, text, span, source, arguments,
+            ),
+            OverSource::Regrid => OverSchema::Regrid.ruled(alloc, text, span, source, arguments),
+            OverSource::Window => OverSchema::Window.ruled(alloc, text, span, source, arguments),
+            OverSource::Aggregate => OverSchema::Aggregate.ruled(
+                alloc, text, span, source, arguments,
+            ),
         }
     }
 }

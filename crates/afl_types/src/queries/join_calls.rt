@@ -6,10 +6,11 @@ ghost use Rattle.check_joins.specs.Crosses.{cross_parts};
 ghost use Rattle.check_joins.specs.JoinSchemas.{joined_schema};
 ghost use Rattle.afl_types.specs.JoinCalls.{cross_call, join_call};
 
+use crate::queries::made::of_made;
 use afl_trees::Tree;
 use cell_values::{Schema, Span};
 use check_joins::{Crossed, cross_parts, join_schema};
-use check_rules::{TypeFault, of_new_schema, shape_of};
+use check_rules::{TypeFault, shape_of};
 use logical_plan::{Plan, let_go};
 use std::alloc::Global;
 
@@ -22,7 +23,7 @@ fn joined_over(alloc: Global, span: Span, left: &Plan, right: &Plan) -> Result<S
 }
 
 /// `join` of two sources.
-#[tactic(auto, using(check_rules::proofs::Steps::ok_then, check_rules::proofs::Steps::err_then))]
+#[tactic(auto, using(crate::proofs::Made::made_then, check_rules::proofs::Steps::err_then))]
 pub(crate) fn join_call(
     alloc: Global,
     span: Span,
@@ -32,10 +33,7 @@ pub(crate) fn join_call(
     ensures { Answers result (join_call span left right) }
 {
     match joined_over(alloc, span, &left, &right) {
-        Ok(schema) => {
-            let plan = Plan::join(alloc, left, right, schema)?;
-            of_new_schema(alloc, span, plan)
-        }
+        Ok(schema) => of_made(alloc, span, Plan::join(alloc, left, right, schema)),
         Err(fault) => {
             let_go(left);
             let_go(right);
@@ -61,7 +59,7 @@ fn crossed_over(
 }
 
 /// `cross_join` of two sources, with the names behind them.
-#[tactic(auto, using(check_rules::proofs::Steps::ok_then, check_rules::proofs::Steps::err_then))]
+#[tactic(auto, using(crate::proofs::Made::made_then, check_rules::proofs::Steps::err_then))]
 pub(crate) fn cross_call(
     alloc: Global,
     span: Span,
@@ -74,10 +72,11 @@ pub(crate) fn cross_call(
     ensures { Answers result (cross_call span left right arguments.now) }
 {
     match crossed_over(alloc, span, &left, &right, arguments) {
-        Ok(parts) => {
-            let plan = Plan::cross_join(alloc, left, right, parts.pairs, parts.schema)?;
-            of_new_schema(alloc, span, plan)
-        }
+        Ok(parts) => of_made(
+            alloc,
+            span,
+            Plan::cross_join(alloc, left, right, parts.pairs, parts.schema),
+        ),
         Err(fault) => {
             let_go(left);
             let_go(right);

@@ -1,9 +1,10 @@
 //! `store` and `insert`.
+ghost use Rattle.std.specs.Prelude.{◌≡◌};
 ghost use Rattle.logical_plan.specs.PlanSchema.{schema_of};
 ghost use Rattle.plan_changes.specs.Changes.{entry_named};
 ghost use Rattle.check_rules.specs.Checked.{Answers};
-ghost use Rattle.afl_types.specs.Changes.{fitting, stored_schema, inserted_schema, stored_in, inserted_in};
-ghost use Rattle.afl_types.specs.Changes.{store_target, insert_target, store_call, insert_call};
+ghost use Rattle.afl_types.specs.Changes.{fitting, store_call, insert_call};
+ghost use Rattle.afl_types.specs.Inner.Putting.{new_schema, put_schema, put_in, put_target, put_change, put_call};
 
 use afl_trees::{Node, Tree};
 use cell_values::{List, Name, Schema, Span};
@@ -18,6 +19,13 @@ use std::alloc::Global;
 pub struct Target {
     pub name: Name,
     pub schema: Schema,
+}
+
+/// Which of the two puts a version: `store` makes a new array where none has the name, `insert` puts it into one that stands.
+#[derive(Clone, Copy)]
+pub(crate) enum Putting {
+    Store,
+    Insert,
 }
 
 /// The most versions that an array ever has had, one more than which has no number.
@@ -36,142 +44,131 @@ fn fitting(span: Span, at: Span, entry: &NameEntry, shape: &Schema) -> Result<Sc
     Ok(entry.schema.copy()?)
 }
 
-/// The schema of what is stored under a name: of a new array that of the plan.
-fn stored_schema(
+/// The schema of what is put under a name that no array has: of a new array that of the plan.
+fn new_schema(
+    putting: Putting,
     arrays: &List<NameEntry>,
-    span: Span,
     at: Span,
-    name: &Name,
     shape: Schema,
 ) -> Result<Schema, TypeFault>
-    ensures { Answers result (stored_schema arrays.now span at shape (entry_named arrays.now name.now)) }
+    ensures { Answers result (new_schema putting arrays.now at shape) }
 {
-    match entry_named(arrays, name) {
-        Some(entry) => fitting(span, at, entry, &shape),
-        None => {
+    match putting {
+        Putting::Store => {
             if has_room(arrays) {
                 Ok(shape)
             } else {
                 Err(broken(at, TypeKind::TooManyArrays))
             }
         }
+        Putting::Insert => Err(broken(at, TypeKind::UnknownArray)),
     }
 }
 
-/// The schema of what is inserted under a name.
-fn inserted_schema(
+/// The schema of what is put under a name.
+fn put_schema(
+    putting: Putting,
     arrays: &List<NameEntry>,
     span: Span,
     at: Span,
     name: &Name,
-    shape: &Schema,
+    shape: Schema,
 ) -> Result<Schema, TypeFault>
-    ensures { Answers result (inserted_schema span at shape.now (entry_named arrays.now name.now)) }
+    ensures { Answers result (put_schema putting arrays.now span at shape (entry_named arrays.now name.now)) }
 {
     match entry_named(arrays, name) {
-        Some(entry) => fitting(span, at, entry, shape),
-        None => Err(broken(at, TypeKind::UnknownArray)),
+        Some(entry) => fitting(span, at, entry, &shape),
+        None => new_schema(putting, arrays, at, shape),
     }
 }
 
-/// What `store` puts a version into, where an argument names it.
+/// What a version is put into, where an argument names it.
 #[tactic(auto, using(check_rules::proofs::Steps::ok_then, check_rules::proofs::Steps::err_then))]
-fn stored_in(
+fn put_in(
+    putting: Putting,
     arrays: &List<NameEntry>,
     span: Span,
     at: Span,
     name: &Name,
     shape: Schema,
 ) -> Result<Target, TypeFault>
-    ensures { Answers result (stored_in arrays.now span shape at name.now) }
+    ensures { Answers result (put_in putting arrays.now span shape at name.now) }
 {
-    let schema = stored_schema(arrays, span, at, name, shape)?;
+    let schema = put_schema(putting, arrays, span, at, name, shape)?;
     Ok(Target {
         name: name.copy()?,
         schema,
     })
 }
 
-/// What `insert` puts a version into, where an argument names it.
-#[tactic(auto, using(check_rules::proofs::Steps::ok_then, check_rules::proofs::Steps::err_then))]
-fn inserted_in(
-    arrays: &List<NameEntry>,
-    span: Span,
-    at: Span,
-    name: &Name,
-    shape: &Schema,
-) -> Result<Target, TypeFault>
-    ensures { Answers result (inserted_in arrays.now span shape.now at name.now) }
-{
-    let schema = inserted_schema(arrays, span, at, name, shape)?;
-    Ok(Target {
-        name: name.copy()?,
-        schema,
-    })
-}
-
-/// What `store` of an array of this schema puts a version into.
-fn store_target(
+/// What a version of an array of this schema is put into.
+fn put_target(
+    putting: Putting,
     arrays: &List<NameEntry>,
     span: Span,
     shape: Schema,
     target: &Tree,
 ) -> Result<Target, TypeFault>
-    ensures { Answers result (store_target arrays.now span shape target.now) }
+    ensures { Answers result (put_target putting arrays.now span shape target.now) }
 {
     match &target.node {
-        Node::Ref(name) => stored_in(arrays, span, target.span, name, shape),
+        Node::Ref(name) => put_in(putting, arrays, span, target.span, name, shape),
         _ => Err(wrong_type(target)),
     }
 }
 
-/// What `insert` of an array of this schema puts a version into.
-fn insert_target(
-    arrays: &List<NameEntry>,
-    span: Span,
-    shape: &Schema,
-    target: &Tree,
-) -> Result<Target, TypeFault>
-    ensures { Answers result (insert_target arrays.now span shape.now target.now) }
-{
-    match &target.node {
-        Node::Ref(name) => inserted_in(arrays, span, target.span, name, shape),
-        _ => Err(wrong_type(target)),
-    }
-}
-
-/// What `store` of a plan puts a version into.
-fn target_of_store(
+/// What a version that a plan gives is put into.
+fn target_of_plan(
     alloc: Global,
+    putting: Putting,
     arrays: &List<NameEntry>,
     span: Span,
     plan: &Plan,
     target: &Tree,
 ) -> Result<Target, TypeFault>
-    ensures { Answers result (store_target arrays.now span (schema_of plan.now) target.now) }
+    ensures { Answers result (put_target putting arrays.now span (schema_of plan.now) target.now) }
 {
     let shape = shape_of(alloc, plan)?;
-    store_target(arrays, span, shape, target)
+    put_target(putting, arrays, span, shape, target)
 }
 
-/// What `insert` of a plan puts a version into.
-fn target_of_insert(
+/// The change that puts what a plan gives into its target.
+fn put_change(putting: Putting, target: Target, plan: Plan) -> Change
+    ensures { result ≡ put_change putting target plan }
+{
+    let Target { name, schema } = target;
+    match putting {
+        Putting::Store => Change::Store { name, schema, plan },
+        Putting::Insert => Change::Insert { name, schema, plan },
+    }
+}
+
+/// `store` or `insert` of a plan and a tree, the array that it is put into: the change, or the first rule that it breaks.
+///
+/// `span` is that of the whole call.
+#[tactic(auto, using(check_rules::proofs::Steps::ok_then, check_rules::proofs::Steps::err_then))]
+pub(crate) fn put_call(
     alloc: Global,
+    putting: Putting,
     arrays: &List<NameEntry>,
     span: Span,
-    plan: &Plan,
+    plan: Plan,
     target: &Tree,
-) -> Result<Target, TypeFault>
-    ensures { Answers result (insert_target arrays.now span (schema_of plan.now) target.now) }
+) -> Result<Change, TypeFault>
+    ensures { Answers result (put_call putting arrays.now span plan target.now) }
 {
-    let shape = shape_of(alloc, plan)?;
-    insert_target(arrays, span, &shape, target)
+    match target_of_plan(alloc, putting, arrays, span, &plan, target) {
+        Ok(target) => Ok(put_change(putting, target, plan)),
+        Err(fault) => {
+            let_go(plan);
+            Err(fault)
+        }
+    }
 }
 
 /// `store` of a plan and a tree, the array that it is stored in: the change, or the first rule that it breaks.
 ///
 /// `span` is that of the whole call.
-#[tactic(auto, using(check_rules::proofs::Steps::ok_then, check_rules::proofs::Steps::err_then))]
 pub fn store_call(
     alloc: Global,
     arrays: &List<NameEntry>,
@@ -181,19 +178,12 @@ pub fn store_call(
 ) -> Result<Change, TypeFault>
     ensures { Answers result (store_call arrays.now span plan target.now) }
 {
-    match target_of_store(alloc, arrays, span, &plan, target) {
-        Ok(Target { name, schema }) => Ok(Change::Store { name, schema, plan }),
-        Err(fault) => {
-            let_go(plan);
-            Err(fault)
-        }
-    }
+    put_call(alloc, Putting::Store, arrays, span, plan, target)
 }
 
 /// `insert` of a plan and a tree, the array that it is inserted into: the change, or the first rule that it breaks.
 ///
 /// `span` is that of the whole call.
-#[tactic(auto, using(check_rules::proofs::Steps::ok_then, check_rules::proofs::Steps::err_then))]
 pub fn insert_call(
     alloc: Global,
     arrays: &List<NameEntry>,
@@ -203,11 +193,5 @@ pub fn insert_call(
 ) -> Result<Change, TypeFault>
     ensures { Answers result (insert_call arrays.now span plan target.now) }
 {
-    match target_of_insert(alloc, arrays, span, &plan, target) {
-        Ok(Target { name, schema }) => Ok(Change::Insert { name, schema, plan }),
-        Err(fault) => {
-            let_go(plan);
-            Err(fault)
-        }
-    }
+    put_call(alloc, Putting::Insert, arrays, span, plan, target)
 }

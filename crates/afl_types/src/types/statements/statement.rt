@@ -1,16 +1,17 @@
 //! Statements: changes and listings beside queries.
 ghost use Rattle.std.specs.Prelude.{ℕ, List};
-ghost use Rattle.afl_trees.specs.Term.{to_terms, no_terms, and_term};
+ghost use Rattle.afl_trees.specs.Term.{to_terms};
 ghost use Rattle.logical_plan.specs.Query.{Query};
 ghost use Rattle.plan_changes.specs.declared.change.Change.{Change};
 ghost use Rattle.check_rules.specs.Checked.{Answers, Checked};
 ghost use Rattle.check_rules.specs.Operators.{operator_named};
 ghost use Rattle.afl_types.specs.Arrays.{AreValid};
 ghost use Rattle.afl_types.specs.Queries.{query_of};
-ghost use Rattle.afl_types.specs.Statements.{changed, insert_of, listed, numbered, queried, removed, said, shown, store_of};
+ghost use Rattle.afl_types.specs.Inner.PuttingStatements.{put_of, put_two};
+ghost use Rattle.afl_types.specs.Statements.{changed, listed, numbered, queried, removed, said, shown};
 
 use crate::queries::query_plan;
-use crate::types::changes::{array_call, cut_call, insert_call, list_call, store_call};
+use crate::types::changes::{Putting, array_call, cut_call, list_call, put_call};
 use crate::types::statements::checking::Typed;
 use afl_trees::Tree;
 use cell_values::{Name, Span};
@@ -20,72 +21,38 @@ use plan_changes::Change;
 use schema_grammar::TypeKind;
 use std::alloc::Global;
 
-/// `store` of a tree that is a query, checked wholly, under a name.
+/// `store` or `insert` of a tree that is a query, checked wholly, under a name.
 #[tactic(auto, using(check_rules::proofs::Steps::ok_then, check_rules::proofs::Steps::err_then))]
-fn store_two(
+fn put_two(
     alloc: Global,
     text: &[u8],
     names: &Names,
+    putting: Putting,
     span: Span,
     source: &Tree,
     target: &Tree,
 ) -> Result<Change, TypeFault>
     requires { AreValid names.now.arrays }
-    ensures { Answers result (store_of names.now.arrays span (and_term source.now (and_term target.now no_terms))) }
+    ensures { Answers result (put_two putting names.now.arrays span source.now target.now) }
 {
     let plan = query_plan(alloc, source, text, names)?;
-    store_call(alloc, &names.arrays, span, plan, target)
+    put_call(alloc, putting, &names.arrays, span, plan, target)
 }
 
-/// `insert` of a tree that is a query, checked wholly, under a name.
-#[tactic(auto, using(check_rules::proofs::Steps::ok_then, check_rules::proofs::Steps::err_then))]
-fn insert_two(
+/// `store` or `insert`.
+fn put_of(
     alloc: Global,
     text: &[u8],
     names: &Names,
-    span: Span,
-    source: &Tree,
-    target: &Tree,
-) -> Result<Change, TypeFault>
-    requires { AreValid names.now.arrays }
-    ensures { Answers result (insert_of names.now.arrays span (and_term source.now (and_term target.now no_terms))) }
-{
-    let plan = query_plan(alloc, source, text, names)?;
-    insert_call(alloc, &names.arrays, span, plan, target)
-}
-
-/// `store`.
-#[tactic(auto, using(crate::proofs::Targets::few_for_store, crate::proofs::Targets::many_for_store))]
-fn store_of(
-    alloc: Global,
-    text: &[u8],
-    names: &Names,
+    putting: Putting,
     span: Span,
     arguments: &[Tree],
 ) -> Result<Change, TypeFault>
     requires { AreValid names.now.arrays }
-    ensures { Answers result (store_of names.now.arrays span (to_terms arguments.now)) }
+    ensures { Answers result (put_of putting names.now.arrays span (to_terms arguments.now)) }
 {
     match arguments {
-        [source, target] => store_two(alloc, text, names, span, source, target),
-        _ => Err(broken(span, TypeKind::WrongCount)),
-    }
-}
-
-/// `insert`.
-#[tactic(auto, using(crate::proofs::Targets::few_for_insert, crate::proofs::Targets::many_for_insert))]
-fn insert_of(
-    alloc: Global,
-    text: &[u8],
-    names: &Names,
-    span: Span,
-    arguments: &[Tree],
-) -> Result<Change, TypeFault>
-    requires { AreValid names.now.arrays }
-    ensures { Answers result (insert_of names.now.arrays span (to_terms arguments.now)) }
-{
-    match arguments {
-        [source, target] => insert_two(alloc, text, names, span, source, target),
+        [source, target] => put_two(alloc, text, names, putting, span, source, target),
         _ => Err(broken(span, TypeKind::WrongCount)),
     }
 }
@@ -170,8 +137,22 @@ pub(crate) fn said(
     ensures { Answers result (said names.now.arrays span (operator_named name.now) (to_terms arguments.now) (queried (query_of names.now.arrays tree.now))) }
 {
     match operator_named(name) {
-        Some(Operator::Store) => of_change(store_of(alloc, text, names, span, arguments)),
-        Some(Operator::Insert) => of_change(insert_of(alloc, text, names, span, arguments)),
+        Some(Operator::Store) => of_change(put_of(
+            alloc,
+            text,
+            names,
+            Putting::Store,
+            span,
+            arguments,
+        )),
+        Some(Operator::Insert) => of_change(put_of(
+            alloc,
+            text,
+            names,
+            Putting::Insert,
+            span,
+            arguments,
+        )),
         Some(Operator::Remove) => removed(array_call(&names.arrays, span, arguments)),
         Some(Operator::RemoveVersions) => of_change(cut_call(&names.arrays, span, arguments)),
         Some(Operator::Versions) => numbered(array_call(&names.arrays, span, arguments)),

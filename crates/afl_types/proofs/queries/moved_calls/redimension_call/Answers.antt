@@ -1,12 +1,10 @@
-use Rattle.std.proofs.Common.{Ok, sym, ap}
-use Rattle.logical_plan.specs.PlanSchema.{schema_of}
-use Rattle.logical_plan.specs.Query.{Query, redimensioned}
-use Rattle.check_rules.proofs.Steps.{ok_then}
+use Rattle.logical_plan.specs.Query.{redimensioned}
 use Rattle.check_sources.specs.Redimension.{redimension_parts}
+use Rattle.afl_types.proofs.Made.{planned_then}
 use Rattle.afl_types.proofs.queries.moved_calls.redimension_call.Goals as goal
 
-pub returns-in_ok-plan-in-Ok : goal.returns-in_ok-plan-in-Ok
-returns-in_ok-plan-in-Ok c =
-    ok_then (Ok c.in_ok-plan-in-Ok.plan) (redimension_parts c.args.span (schema_of c.args.source) c.args.arguments.now)
-    (λ p. Ok (redimensioned c.args.source p.schema p.aggregates)) _ c.in-Ok.ensures
-    (ap (λ (plan : Query). Ok plan) (sym c.in_ok-plan-in-Ok.ensures))
+pub returns-in-Ok : goal.returns-in-Ok
+returns-in-Ok c =
+    planned_then c.plan_made.result c.redimension.result (redimension_parts c.args.span c.args.shape.now c.args.arguments.now)
+    (λ p. redimensioned c.args.source p.schema p.aggregates) c.in-Ok.parts c.in-Ok.ensures
+    c.redimension.ensures c.plan_made.ensures

@@ -1,8 +1,0 @@
-use Rattle.std.proofs.Common.{subst}
-use Rattle.cell_values.specs.declared.schema.Schema.{Schema}
-use Rattle.check_rules.specs.Checked.{Answers}
-use Rattle.check_joins.specs.Windows.{window_parts}
-use Rattle.afl_types.proofs.queries.group_calls.window_over.Goals as goal
-
-pub returns : goal.returns
-returns c = subst (λ (shape : Schema). Answers c.window_parts.result (window_parts c.args.span shape c.args.arguments.now)) c.in_ok-schema.ensures c.window_parts.ensures
