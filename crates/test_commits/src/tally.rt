@@ -7,8 +7,7 @@ use cell_values::{List, Memory};
 use std::sync::Wait;
 use std::thread;
 use std::thread::Threads;
-use test_disks::push_numbered;
-use test_kit::{Transcript, push_word};
+use test_kit::{Transcript, push_numbered, push_word};
 use turn_lock::{History, TurnLock, TurnSeat};
 
 #[derive(Clone, Copy)]

@@ -11,5 +11,5 @@ pub use stores::{
 };
 pub use test_quiet::{
     Answer, Hold, Offer, QuietDisk, SilentDisk, Step, Watch, add_read, count_of, named_leaf,
-    offer_over, pair_of, push_costs, push_numbered, step_of,
+    offer_over, pair_of, push_costs, step_of,
 };

@@ -35,6 +35,13 @@ pub fn push_count(out: &mut Transcript, number: u64) {
     out.note(told.is_ok());
 }
 
+/// Adds a number between two texts.
+pub fn push_numbered(out: &mut Transcript, before: &str, number: u64, behind: &str) {
+    push_word(out, before);
+    push_count(out, number);
+    push_word(out, behind);
+}
+
 /// Adds a number, which may be below 0.
 pub fn push_integer(out: &mut Transcript, number: i64) {
     let told = write!(out.text, "{number}");
@@ -74,7 +81,7 @@ pub fn push_text(out: &mut Transcript, bytes: &[u8]) {
 }
 
 /// Adds a text, and lets it go.
-pub fn push_given(out: &mut Transcript, text: Bytes) {
+fn push_given(out: &mut Transcript, text: Bytes) {
     push_text(out, text.as_slice());
     drop(text);
 }

@@ -6,7 +6,7 @@ use result_print::{Refusal, refusal_line};
 use std::alloc::AllocError;
 use std::str::from_utf8;
 use store_state::ReadFault;
-use test_kit::{Transcript, push_count, push_word};
+use test_kit::{Transcript, push_numbered, push_word};
 
 /// What a step is answered.
 pub enum Answer {
@@ -82,13 +82,6 @@ impl Drop for Answer {
             Answer::Memory => {}
         }
     }
-}
-
-/// Adds a number between two texts.
-pub fn push_numbered(out: &mut Transcript, before: &str, number: u64, behind: &str) {
-    push_word(out, before);
-    push_count(out, number);
-    push_word(out, behind);
 }
 
 fn push_numbers(out: &mut Transcript, numbers: &[u32]) {

@@ -1,9 +1,8 @@
 //! What calls of a disk cost.
 
-use crate::answers::push_numbered;
 use crate::watch::Watch;
 use afl_outside::DeviceCall;
-use test_kit::{Transcript, push_count, push_word};
+use test_kit::{Transcript, push_count, push_numbered, push_word};
 
 /// How many bytes a page has.
 const PAGE: u64 = 4096;

@@ -14,7 +14,7 @@ mod statements;
 mod steps;
 mod watch;
 
-pub use answers::{Answer, push_numbered};
+pub use answers::Answer;
 pub use cells::{add_read, leaf_of, lines_of, named_leaf};
 pub use changes::{Offer, change_over, offer_over};
 pub use costs::push_costs;

@@ -11,7 +11,7 @@
 
 use crate::files::shelf_of;
 use crate::runs::{file_behind, file_left, new_shelf, report_of, report_over};
-use crate::told::{end_words, push_bytes, push_notice, push_numbered};
+use crate::told::{end_words, push_bytes, push_notice};
 use afl_outside::MemShelf;
 use afl_run::{Report, let_go_report};
 use cell_values::{Bytes, Memory};
@@ -19,7 +19,7 @@ use std::alloc::Global;
 use std::sync::Wait;
 use std::thread::Threads;
 use std::time::Clock;
-use test_kit::{Transcript, push_word};
+use test_kit::{Transcript, push_numbered, push_word};
 
 /// The file of a new database over which this script was run.
 fn file_before<R: AllocGlobal + Threads + Wait + Clock + Sync>(

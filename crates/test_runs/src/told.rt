@@ -4,18 +4,11 @@ use afl_outside::{MemDisk, MemShelf};
 use afl_run::{Report, SessionEnd, notice_line};
 use cell_values::Memory;
 use std::str::from_utf8;
-use test_kit::{Transcript, disk_bytes, push_count, push_word};
+use test_kit::{Transcript, disk_bytes, push_numbered, push_word};
 
 /// Adds bytes that are a text.
 pub(crate) fn push_bytes(out: &mut Transcript, bytes: &[u8]) {
     push_word(out, from_utf8(bytes).unwrap_or("no text"));
-}
-
-/// Adds a number between two texts.
-pub(crate) fn push_numbered(out: &mut Transcript, before: &str, number: u64, behind: &str) {
-    push_word(out, before);
-    push_count(out, number);
-    push_word(out, behind);
 }
 
 /// Adds the line with which a run ends.

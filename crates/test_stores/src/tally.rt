@@ -2,8 +2,8 @@
 
 use array_store::Store;
 use event_core::{Entry, let_go_entries};
-use test_kit::Transcript;
-use test_quiet::{SilentDisk, push_numbered};
+use test_kit::{Transcript, push_numbered};
+use test_quiet::SilentDisk;
 
 /// How many of the entries are commits of a session.
 fn commits_of(entries: &[Entry], by: u32) -> u64 {

@@ -4,10 +4,8 @@ use crate::commits::moments::{LIMITS, Versions, push_moments};
 use cell_values::{Bytes, Memory};
 use std::alloc::Global;
 use std::thread::Threads;
-use test_disks::{
-    QuietDisk, Watch, answered, held_in, new_database, old_database, push_numbered, with_change,
-};
-use test_kit::{Transcript, disk_of, push_word, push_words};
+use test_disks::{QuietDisk, Watch, answered, held_in, new_database, old_database, with_change};
+use test_kit::{Transcript, disk_of, push_numbered, push_word, push_words};
 
 /// A file, a change of it, and what it holds before and after that.
 #[derive(Drop)]

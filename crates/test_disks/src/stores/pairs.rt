@@ -14,10 +14,8 @@ use plan_changes::entry_named;
 use std::alloc::Global;
 use std::mem::replace;
 use std::thread::Threads;
-use test_kit::{Transcript, name_of};
-use test_quiet::{
-    Answer, Hold, QuietDisk, Step, Watch, named_leaf, pair_of, push_numbered, step_of,
-};
+use test_kit::{Transcript, name_of, push_numbered};
+use test_quiet::{Answer, Hold, QuietDisk, Step, Watch, named_leaf, pair_of, step_of};
 
 /// A store, and what two sessions have of it.
 pub struct SessionPair {
