@@ -1,15 +1,12 @@
 -- What comes of a typed statement, and of the tree that it is of.
 use Rattle.std.proofs.Common.{◌≡◌, ℕ, true, List, ◌++◌, Option, Some, Result, Ok, Err, IfErr, IfOk, OnErr, refl, sym, ap, subst, ◌∙◌}
-use Rattle.std.specs.Result.{IsErrAnd}
 use Rattle.cell_values.specs.declared.name.Span.{Span}
 use Rattle.afl_trees.specs.Term.{Term, create, call, Terms}
 use Rattle.logical_plan.specs.Meaning.{Database as Rows}
-use Rattle.logical_plan.specs.PlanSchema.{schema_of}
 use Rattle.logical_plan.specs.Query.{Query}
 use Rattle.logical_plan.specs.declared.names.NameEntry.{NameEntry}
 use Rattle.logical_plan.specs.declared.names.Names.{Names}
 use Rattle.plan_changes.specs.Databases.{Database, names_of, rows_of}
-use Rattle.plan_changes.specs.declared.change.Change.{Change}
 use Rattle.plan_changes.specs.Stored.{AreStored}
 use Rattle.check_exprs.specs.Laws.{leaves_fit}
 use Rattle.afl_types.specs.Arrays.{AreValid}
@@ -100,11 +97,6 @@ allowed_over checked typed is (Ok outcome) = tt
 allowed_over checked typed is (Err Source) = (typed, is)
 allowed_over checked typed is (Err (Damaged page)) = (typed, is)
 allowed_over checked typed is (Err Memory) = tt
-
--- each may want memory
-pub wanting_over : (checked : Checked Typed) (answer : Result Outcome ExecFault) → IsErrAnd answer (λ fault. fault ≡ Memory) → IfErr answer (λ fault. MayFail fault checked)
-wanting_over checked (Ok outcome) want = tt
-wanting_over checked (Err fault) want = subst (λ (f : ExecFault). MayFail f checked) (sym want) tt
 
 module _ (names : Names) (a b : Checked Typed) (same : a ≡ b) where
   pub kind_over : (style : Style) (answer : Result Outcome ExecFault) → IfOk answer (HasOutcomeKind style names b) → IfOk answer (HasOutcomeKind style names a)

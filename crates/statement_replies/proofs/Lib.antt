@@ -8,6 +8,7 @@ pub mod Offers
 pub mod PlanReplies
 pub mod QueryReplies
 mod RepliesWorked
+pub mod Replying
 pub mod Saying
 pub mod Standing
 pub mod StatementReplies

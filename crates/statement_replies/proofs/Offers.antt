@@ -1,5 +1,5 @@
 -- Changes that are offered or refused.
-use Rattle.std.proofs.Common.{◌≡◌, inr, ℕ, List, Option, Some, Ok, Err, IfSome, refl, sym, ap, subst, ◌∙◌}
+use Rattle.std.proofs.Common.{◌≡◌, inr, ℕ, List, ◌++◌, Option, Some, Result, Ok, Err, IfOk, IfSome, refl, sym, ap, subst, ◌∙◌}
 use Rattle.cell_values.specs.declared.datum.Broken.{Broken}
 use Rattle.cell_values.specs.declared.schema.Schema.{Schema}
 use Rattle.array_geom.specs.declared.chunk.Changed.{Changed}
@@ -10,6 +10,7 @@ use Rattle.plan_changes.specs.Databases.{Database, fault_of_change, names_of, ro
 use Rattle.plan_changes.specs.Stored.{HasItsNames}
 use Rattle.plan_changes.specs.Typed.{IsTypedFor}
 use Rattle.afl_types.specs.declared.types.statements.checking.Typed.TheVariants.{Change as AChange}
+use Rattle.chunk_source.specs.declared.reading.fault.ExecFault.{ExecFault}
 use Rattle.chunk_source.specs.Source.{Keeps, SourceState}
 use Rattle.commit_pages.specs.Changes.{AreValid, ComesWith}
 use Rattle.changed_chunks.specs.declared.traces.asking.Asking.{Asking}
@@ -23,8 +24,8 @@ use Rattle.statement_replies.specs.declared.replies.replies.Reply.{Reply}
 use Rattle.statement_replies.specs.declared.replies.style.Style.{Style}
 use Rattle.statement_replies.specs.declared.answers.outcome.Offer.{Offer}
 use Rattle.statement_replies.specs.declared.answers.outcome.Outcome.TheVariants.{Replied}
-use Rattle.statement_replies.specs.Inner.Made.{HasChunks, HasPlan, IsMadeIn, IsPutUnder, outcome_with}
-use Rattle.statement_replies.specs.Outcomes.{HasOutcomeKind, IsMadeOf, IsOutcomeOf, IsToldBy}
+use Rattle.statement_replies.specs.Inner.Made.{HasChunks, HasPlan, IsAlike, IsMadeIn, IsPutUnder, asked_made, outcome_with}
+use Rattle.statement_replies.specs.Outcomes.{ForRowsPut, HasOutcomeKind, IsMadeOf, IsOutcomeOf, IsToldBy, asked_by_change}
 
 -- ---- the chunks of a change
 
@@ -73,6 +74,12 @@ pub is_traced : (names : Names) (old mid : SourceState) (change : Change) (targe
     → IsTracedIn names mid change target db
 is_traced names old mid change target db kept there counted = record { named = there.named; tells = (kept.tells (rows_of db)).1 there.tells; counted = counted }
 
+pub traced_where : (names : Names) (old mid : SourceState) (change : Change) (target : Asking) (made : Result (Option Changed) Broken) → Keeps old mid
+    → IfOk made (λ changed. (db : Database) → IsToldBy names old db → IsTargetAsking db change target)
+    → (db : Database) → IsToldBy names old db → IfOk made (λ changed. IsTracedIn names mid change target db)
+traced_where names old mid change target (Ok changed) kept counted db there = is_traced names old mid change target db kept there (counted db there)
+traced_where names old mid change target (Err broken) kept counted db there = tt
+
 -- ---- a refusal
 
 pub fault_kind : (style : Style) (names : Names) (change : Change) (broken : Broken) (reply : Reply) → HasPlan change → reply ≡ cell_reply broken → HasOutcomeKind style names (Ok (AChange change)) (Replied reply)
@@ -85,3 +92,20 @@ fault_kind style names (RemoveVersions name below) broken reply has e = absurd h
 pub fault_told : (style : Style) (db : Database) (change : Change) (broken : Broken) (reply : Reply) → fault_of_change db change ≡ Some broken → reply ≡ cell_reply broken
     → reply_to_typed style db (AChange change) ≡ without_change reply
 fault_told style db change broken reply fault e = ap (changed_or_broken (names_of db) (traced style (change_lines db change)) change) fault ∙ ap without_change (sym e)
+
+-- ---- what an offer or a refusal comes to
+
+pub in_each : {A F : Type 0} (r : Result A F) (There : Database → Type 0) (P : Database → A → Type 0) → ((db : Database) → There db → IfOk r (P db))
+    → IfOk r (λ x. (db : Database) → There db → P db x)
+in_each (Ok x) There P h = h
+in_each (Err f) There P h = tt
+
+module _ (names : Names) (old new : SourceState) (change : Change) where
+  pub asked_alike : (made : Result (Option Changed) Broken) (r : Result (Result Offer Reply) ExecFault) → IfOk r (IsAlike made)
+      → ForRowsPut names old (Ok (AChange change)) (λ rows. new.asked ≡ old.asked ++ asked_made rows old names change made)
+      → IfOk r (λ offer. ForRowsPut names old (Ok (AChange change)) (λ rows. new.asked ≡ old.asked ++ asked_by_change rows old names change (outcome_with change offer)))
+  asked_alike (Ok changed) (Ok (Ok offer)) alike h = h
+  asked_alike (Ok changed) (Ok (Err reply)) alike h = absurd alike
+  asked_alike (Err broken) (Ok (Ok offer)) alike h = absurd alike
+  asked_alike (Err broken) (Ok (Err reply)) alike h = h
+  asked_alike made (Err fault) alike h = tt

@@ -14,6 +14,7 @@ pub use laws::{
 };
 pub use listings::{accepted_reply, list_reply, show_reply, versions_reply};
 pub use queries::{answer_query, reply_to_query};
+pub(crate) use replies::or_fault;
 pub use replies::{Reply, let_go_reply, refuse};
 pub use style::Style;
 pub use traces::change_lines;

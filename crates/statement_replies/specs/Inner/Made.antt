@@ -59,6 +59,13 @@ abbrev pub outcome_with : Change → Result Offer Reply → Outcome
 outcome_with change (Ok offer) = Changes change offer.changed offer.reply
 outcome_with change (Err reply) = Replied reply
 
+-- a change that has its chunks is offered, one that has a fault is refused
+abbrev pub IsAlike : Result (Option Changed) Broken → Result Offer Reply → Type 0
+IsAlike (Ok changed) (Ok offer) = Unit {0}
+IsAlike (Ok changed) (Err reply) = ⊥
+IsAlike (Err broken) (Ok offer) = ⊥
+IsAlike (Err broken) (Err reply) = Unit {0}
+
 -- a typed statement can be answered over these names and the source: its plan can be computed, its change is allowed, its array stands
 abbrev pub CanAnswer : Names → SourceState → Typed → Type 0
 CanAnswer names source (AQuery plan) = CanCompute source plan

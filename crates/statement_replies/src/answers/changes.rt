@@ -2,8 +2,8 @@
 ghost use Rattle.std.specs.Prelude.{◌≡◌, ◌≤◌, ◌++◌, None, Ok as Good, IfOk, OnErr};
 ghost use Rattle.chunk_source.specs.Faults.{Answers};
 ghost use Rattle.chunk_source.specs.Source.{AsksFront, Keeps};
-ghost use Rattle.plan_changes.specs.Databases.{Database};
-ghost use Rattle.plan_changes.specs.Stored.{AreStored};
+ghost use Rattle.plan_changes.specs.Databases.{Database, names_of};
+ghost use Rattle.plan_changes.specs.Stored.{AreStored, HasItsNames};
 ghost use Rattle.plan_changes.specs.Typed.{IsTypedFor};
 ghost use Rattle.changed_chunks.specs.Targets.{IsTargetAsking};
 ghost use Rattle.afl_types.specs.declared.types.statements.checking.Typed.TheVariants.{Change as AChange};
@@ -12,11 +12,11 @@ ghost use Rattle.statement_replies.specs.Reply.{cell_reply, traced};
 ghost use Rattle.statement_replies.specs.StatementKinds.{IsChangeReply};
 ghost use Rattle.statement_replies.specs.Statements.{change_reply, reply_to_typed};
 ghost use Rattle.statement_replies.specs.Traces.{CanTrace, IsTracedIn, change_lines, newest_leaf};
-ghost use Rattle.statement_replies.specs.Inner.Made.{HasChunks, IsMadeIn, IsPutUnder, asked_made, outcome_with};
+ghost use Rattle.statement_replies.specs.Inner.Made.{HasChunks, IsAlike, IsMadeIn, IsPutUnder, asked_made, outcome_with};
 ghost use Rattle.statement_replies.specs.Outcomes.{ForRowsPut, HasOutcomeKind, IsOutcomeOf, IsToldBy, all_of_change, asked_by_change};
 
 use crate::answers::outcome::{Offer, Outcome, outcome_with};
-use crate::replies::{Reply, Style, accepted_reply, change_lines, refuse};
+use crate::replies::{Reply, Style, accepted_reply, change_lines, or_fault, refuse};
 use afl_outside::Gate;
 use array_geom::Changed;
 use cell_values::{Broken, Memory, Name, Schema};
@@ -147,36 +147,7 @@ fn reply_of_change<S: ChunkSource>(
     ensures start { S.start source.new ≡ S.start source.old }
 {
     let lines = change_lines(alloc, style, change, names, source, target)?;
-    Ok(accepted_reply(alloc, change, names, &lines)?)
-}
-
-/// A change with these chunks is offered, where so many chunks of an insert's target are asked for.
-fn offered<S: ChunkSource>(
-    alloc: Global,
-    style: Style,
-    change: &Change,
-    names: &Names,
-    source: &mut S,
-    target: Asking,
-    changed: Option<Changed>,
-) -> Result<Offer, ExecFault>
-    requires { CanTrace (S.state source.old) change.now }
-    ensures chunks { IfOk result (λ offer. offer.changed ≡ changed) }
-    ensures kind { IfOk result (λ offer. IsChangeReply style names.now change.now offer.reply) }
-    ensures told { IfOk result (λ offer. (db : Database) → IsTracedIn names.now (S.state source.old) change.now target db
-        → offer.reply ≡ change_reply names.now (traced style (change_lines db change.now)) change.now) }
-    ensures asked { (S.state source.new).asked ≡ (S.state source.old).asked }
-    ensures kept { Keeps (S.state source.old) (S.state source.new) }
-    ensures cause { Answers (S.state source.old) (S.state source.new) result }
-    ensures start { S.start source.new ≡ S.start source.old }
-{
-    match reply_of_change(alloc, style, change, names, source, target) {
-        Ok(reply) => Ok(Offer { changed, reply }),
-        Err(fault) => {
-            let_go_changed(changed);
-            Err(fault)
-        }
-    }
+    or_fault(accepted_reply(alloc, change, names, &lines))
 }
 
 /// The refusal that tells of a cell.
@@ -185,6 +156,43 @@ fn faulty(alloc: Global, broken: Broken) -> Result<Reply, Memory>
 {
     let Broken { at, kind } = broken;
     refuse(alloc, Refusal::Cell { at, kind })
+}
+
+/// What a change is answered that has these chunks or this fault, where so many chunks of an insert's target are asked for.
+fn answered<S: ChunkSource>(
+    alloc: Global,
+    style: Style,
+    change: &Change,
+    names: &Names,
+    source: &mut S,
+    target: Asking,
+    made: Result<Option<Changed>, Broken>,
+) -> Result<Result<Offer, Reply>, ExecFault>
+    requires { CanTrace (S.state source.old) change.now }
+    ensures kind { HasItsNames change.now → IsTypedFor names.now change.now → HasChunks change.now made
+        → IfOk result (λ offer. HasOutcomeKind style names.now (Good (AChange change.now)) (outcome_with change.now offer)) }
+    ensures told { (db : Database) → names_of db ≡ names.now → IfOk made (λ changed. IsTracedIn names.now (S.state source.old) change.now target db)
+        → IsMadeIn db change.now made
+        → IfOk result (λ offer. IsOutcomeOf db (reply_to_typed style db (AChange change.now)) (outcome_with change.now offer)) }
+    ensures alike { IfOk result (IsAlike made) }
+    ensures asked { (S.state source.new).asked ≡ (S.state source.old).asked }
+    ensures kept { Keeps (S.state source.old) (S.state source.new) }
+    ensures cause { Answers (S.state source.old) (S.state source.new) result }
+    ensures start { S.start source.new ≡ S.start source.old }
+{
+    match made {
+        Ok(changed) => match reply_of_change(alloc, style, change, names, source, target) {
+            Ok(reply) => Ok(Ok(Offer { changed, reply })),
+            Err(fault) => {
+                let_go_changed(changed);
+                Err(fault)
+            }
+        },
+        Err(broken) => match faulty(alloc, broken) {
+            Ok(reply) => Ok(Err(reply)),
+            Err(Memory) => Err(ExecFault::Memory),
+        },
+    }
 }
 
 /// What a change is answered in a style: it is offered for a commit, or refused.
@@ -232,9 +240,9 @@ fn offer_of<S: ChunkSource, R: Threads + Sync, G: Gate>(
         workers,
         session,
         gate,
-    )? {
-        Ok(changed) => Ok(Ok(offered(alloc, style, change, names, source, target, changed)?)),
-        Err(broken) => Ok(Err(faulty(alloc, broken)?)),
+    ) {
+        Ok(made) => answered(alloc, style, change, names, source, target, made),
+        Err(fault) => Err(fault),
     }
 }
 

@@ -1,9 +1,12 @@
 //! What comes of a statement.
 ghost use Rattle.std.specs.Prelude.{◌≡◌};
 ghost use Rattle.statement_replies.specs.Inner.Made.{outcome_with};
+ghost use Rattle.statement_replies.specs.Inner.RepliedOutcome.{replied};
 
 use crate::replies::Reply;
 use array_geom::Changed;
+use cell_values::Memory;
+use chunk_source::ExecFault;
 use plan_changes::{Change, let_go_change};
 
 /// What comes of a statement.
@@ -39,5 +42,15 @@ pub(crate) fn outcome_with(change: Change, offer: Result<Offer, Reply>) -> Outco
             let_go_change(change);
             Outcome::Replied(reply)
         }
+    }
+}
+
+/// The outcome that a reply is, or the fault that memory is short.
+pub(crate) fn replied(reply: Result<Reply, Memory>) -> Result<Outcome, ExecFault>
+    ensures { result ≡ replied reply }
+{
+    match reply {
+        Ok(reply) => Ok(Outcome::Replied(reply)),
+        Err(Memory) => Err(ExecFault::Memory),
     }
 }

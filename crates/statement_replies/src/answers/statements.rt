@@ -14,7 +14,7 @@ ghost use Rattle.statement_replies.specs.Inner.Made.{CanAnswer};
 ghost use Rattle.statement_replies.specs.Outcomes.{ForRowsPut, HasOutcomeKind, IsOutcomeOf, IsToldBy, MayFail, all_asked, asked_for};
 
 use crate::answers::changes::outcome_of_change;
-use crate::answers::outcome::Outcome;
+use crate::answers::outcome::{Outcome, replied};
 use crate::replies::{Style, answer_query, list_reply, refuse, show_reply, versions_reply};
 use afl_outside::Gate;
 use afl_trees::Tree;
@@ -100,9 +100,9 @@ fn outcome_of_typed<S: ChunkSource, R: Threads + Sync, G: Gate>(
         Typed::Change(change) => outcome_of_change(
             rt, alloc, change, names, source, style, workers, session, gate,
         ),
-        Typed::Versions(name) => Ok(Outcome::Replied(versions_reply(alloc, &name, names)?)),
-        Typed::Show(name) => Ok(Outcome::Replied(show_reply(alloc, &name, names)?)),
-        Typed::ListArrays => Ok(Outcome::Replied(list_reply(alloc, names)?)),
+        Typed::Versions(name) => replied(versions_reply(alloc, &name, names)),
+        Typed::Show(name) => replied(show_reply(alloc, &name, names)),
+        Typed::ListArrays => replied(list_reply(alloc, names)),
     }
 }
 
@@ -145,9 +145,10 @@ pub fn outcome_of<S: ChunkSource, R: Threads + Sync, G: Gate>(
         Ok(typed) => outcome_of_typed(
             rt, alloc, typed, names, source, style, workers, session, gate,
         ),
-        Err(TypeFault::Rule { span, kind }) => {
-            Ok(Outcome::Replied(refuse(alloc, Refusal::Typing { span, kind })?))
-        }
+        Err(TypeFault::Rule { span, kind }) => replied(refuse(
+            alloc,
+            Refusal::Typing { span, kind },
+        )),
         Err(TypeFault::Memory) => Err(ExecFault::Memory),
     }
 }

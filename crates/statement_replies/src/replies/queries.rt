@@ -18,7 +18,7 @@ ghost use Rattle.statement_replies.specs.Printed.{printed};
 ghost use Rattle.statement_replies.specs.Reading.{HoldsVersions, asked_for};
 ghost use Rattle.statement_replies.specs.Reply.{meant_reply, plan_reply};
 
-use crate::replies::replies::{Reply, refuse};
+use crate::replies::replies::{Reply, or_fault, refuse};
 use crate::replies::style::Style;
 use crate::replies::texts::text_of;
 use crate::replies::traces::lines_wanted;
@@ -72,7 +72,10 @@ pub fn reply_to_query<S: ChunkSource, R: Threads + Sync, G: Gate>(
             let_go(plan);
             answer
         }
-        Err(TypeFault::Rule { span, kind }) => Ok(refuse(alloc, Refusal::Typing { span, kind })?),
+        Err(TypeFault::Rule { span, kind }) => or_fault(refuse(
+            alloc,
+            Refusal::Typing { span, kind },
+        )),
         Err(TypeFault::Memory) => Err(ExecFault::Memory),
     }
 }

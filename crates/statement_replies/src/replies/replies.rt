@@ -1,8 +1,10 @@
 //! A reply, and the reply that refuses.
 ghost use Rattle.std.specs.Prelude.{◌≡◌, IfOk};
 ghost use Rattle.statement_replies.specs.Reply.{refused};
+ghost use Rattle.statement_replies.specs.Inner.Replied.{or_fault};
 
 use cell_values::{Bytes, Memory};
+use chunk_source::ExecFault;
 use result_print::{Refusal, refusal_line};
 use std::alloc::Global;
 
@@ -27,4 +29,14 @@ pub fn refuse(alloc: Global, refusal: Refusal) -> Result<Reply, Memory>
         text,
         refusal: Some(refusal),
     })
+}
+
+/// A reply, or the fault that memory is short.
+pub(crate) fn or_fault(reply: Result<Reply, Memory>) -> Result<Reply, ExecFault>
+    ensures { result ≡ or_fault reply }
+{
+    match reply {
+        Ok(reply) => Ok(reply),
+        Err(Memory) => Err(ExecFault::Memory),
+    }
 }

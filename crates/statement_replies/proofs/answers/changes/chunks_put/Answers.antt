@@ -71,3 +71,33 @@ returns-clause-asked g c =
     subst (λ made. ForRowsPut c.args.names.now old (Ok (AChange c.args.change.now)) (λ rows. new.asked ≡ old.asked ++ asked_made rows old c.args.names.now c.args.change.now (with_chunks made))) c.in-Err.is
     (put_asked c.args.names.now c.args.change.now c.args.name.now c.args.schema.now c.in_ok-target.target c.in_ok-target.ensures c.requires.put old new
     c.changed.new.asking c.in_ok-changed.field-0 c.in_ok-changed.ensures.asked c.in_ok-changed.ensures.only)
+
+pub returns-in-Ok-clause-kept : goal.returns-in-Ok-clause-kept
+returns-in-Ok-clause-kept g c = c.in_ok-changed.ensures.kept
+
+pub returns-in-Ok-clause-cause : goal.returns-in-Ok-clause-cause
+returns-in-Ok-clause-cause g c = c.in_ok-changed.ensures.cause
+
+pub returns-in-Ok-clause-start : goal.returns-in-Ok-clause-start
+returns-in-Ok-clause-start g c = c.in_ok-changed.ensures.start
+
+pub returns-clause-kept : goal.returns-clause-kept
+returns-clause-kept g c = c.in_ok-changed.ensures.kept
+
+pub returns-clause-cause : goal.returns-clause-cause
+returns-clause-cause g c = c.in_ok-changed.ensures.cause
+
+pub returns-clause-start : goal.returns-clause-start
+returns-clause-start g c = c.in_ok-changed.ensures.start
+
+pub returns-in_err-changed-clause-kept : goal.returns-in_err-changed-clause-kept
+returns-in_err-changed-clause-kept g c = c.in_err-changed.ensures.kept
+
+pub returns-in_err-changed-clause-start : goal.returns-in_err-changed-clause-start
+returns-in_err-changed-clause-start g c = c.in_err-changed.ensures.start
+
+pub changed-requires-clause-undamaged : goal.changed-requires-clause-undamaged
+changed-requires-clause-undamaged g c κs within = c.requires.undamaged
+
+pub changed-requires-clause-workers : goal.changed-requires-clause-workers
+changed-requires-clause-workers g c κs within = c.requires.workers

@@ -19,3 +19,39 @@ returns-in-Ok-clause-asked g c =
     let new = g.S.ChunkSource.state c.offer_of.new.source in
     subst (λ outcome. ForRowsPut c.args.names.now old (Ok (AChange c.args.change)) (λ rows. new.asked ≡ old.asked ++ asked_by_change rows old c.args.names.now c.args.change outcome)) (sym c.outcome_with.ensures)
     c.in-Ok.ensures.asked
+
+pub returns-in-Ok-clause-kept : goal.returns-in-Ok-clause-kept
+returns-in-Ok-clause-kept g c = c.in-Ok.ensures.kept
+
+pub returns-in-Ok-clause-cause : goal.returns-in-Ok-clause-cause
+returns-in-Ok-clause-cause g c = c.in-Ok.ensures.cause
+
+pub returns-in-Ok-clause-start : goal.returns-in-Ok-clause-start
+returns-in-Ok-clause-start g c = c.in-Ok.ensures.start
+
+pub returns-in-Err-clause-kept : goal.returns-in-Err-clause-kept
+returns-in-Err-clause-kept g c = c.in-Err.ensures.kept
+
+pub returns-in-Err-clause-cause : goal.returns-in-Err-clause-cause
+returns-in-Err-clause-cause g c = c.in-Err.ensures.cause
+
+pub returns-in-Err-clause-start : goal.returns-in-Err-clause-start
+returns-in-Err-clause-start g c = c.in-Err.ensures.start
+
+pub returns-in-Err-clause-front : goal.returns-in-Err-clause-front
+returns-in-Err-clause-front g c = c.in-Err.ensures.front
+
+pub offer_of-requires-clause-undamaged : goal.offer_of-requires-clause-undamaged
+offer_of-requires-clause-undamaged g c κs within = c.requires.undamaged
+
+pub offer_of-requires-clause-stored : goal.offer_of-requires-clause-stored
+offer_of-requires-clause-stored g c κs within = c.requires.stored
+
+pub offer_of-requires-clause-typed : goal.offer_of-requires-clause-typed
+offer_of-requires-clause-typed g c κs within = c.requires.typed
+
+pub offer_of-requires-clause-holds : goal.offer_of-requires-clause-holds
+offer_of-requires-clause-holds g c κs within = c.requires.holds
+
+pub offer_of-requires-clause-workers : goal.offer_of-requires-clause-workers
+offer_of-requires-clause-workers g c κs within = c.requires.workers

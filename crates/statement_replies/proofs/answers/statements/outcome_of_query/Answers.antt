@@ -15,3 +15,30 @@ returns-in-Ok-clause-asked g c = for_each c.args.names.now (g.S.ChunkSource.stat
 
 pub returns-in-Err-clause-front : goal.returns-in-Err-clause-front
 returns-in-Err-clause-front g c = for_each c.args.names.now (g.S.ChunkSource.state c.args.source.now) (Ok (AQuery c.args.plan.now)) _ (λ rows. c.in-Err.ensures.front)
+
+pub returns-in-Ok-clause-kept : goal.returns-in-Ok-clause-kept
+returns-in-Ok-clause-kept g c = c.in-Ok.ensures.kept
+
+pub returns-in-Ok-clause-cause : goal.returns-in-Ok-clause-cause
+returns-in-Ok-clause-cause g c = c.in-Ok.ensures.cause
+
+pub returns-in-Ok-clause-start : goal.returns-in-Ok-clause-start
+returns-in-Ok-clause-start g c = c.in-Ok.ensures.start
+
+pub returns-in-Err-clause-kept : goal.returns-in-Err-clause-kept
+returns-in-Err-clause-kept g c = c.in-Err.ensures.kept
+
+pub returns-in-Err-clause-cause : goal.returns-in-Err-clause-cause
+returns-in-Err-clause-cause g c = c.in-Err.ensures.cause
+
+pub returns-in-Err-clause-start : goal.returns-in-Err-clause-start
+returns-in-Err-clause-start g c = c.in-Err.ensures.start
+
+pub answer_query-requires-clause-undamaged : goal.answer_query-requires-clause-undamaged
+answer_query-requires-clause-undamaged g c κs within = c.requires.undamaged
+
+pub answer_query-requires-clause-can : goal.answer_query-requires-clause-can
+answer_query-requires-clause-can g c κs within = c.requires.can
+
+pub answer_query-requires-clause-workers : goal.answer_query-requires-clause-workers
+answer_query-requires-clause-workers g c κs within = c.requires.workers

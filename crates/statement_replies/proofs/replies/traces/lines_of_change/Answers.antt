@@ -1,4 +1,5 @@
 use Rattle.std.proofs.Common.{ap, sym, subst, ◌∙◌}
+use Rattle.chunk_source.proofs.ReadLemmas.{keeps_still}
 use Rattle.statement_replies.specs.Traces.{CanTrace, change_lines, change_lines_over}
 use Rattle.statement_replies.proofs.Lines.{insert_over, insert_told, store_over, store_told}
 use Rattle.statement_replies.proofs.replies.traces.lines_of_change.Goals as goal
@@ -52,3 +53,36 @@ returns-in-RemoveVersions-clause-over g c =
 
 pub returns-in-RemoveVersions-clause-told : goal.returns-in-RemoveVersions-clause-told
 returns-in-RemoveVersions-clause-told g c db there = c.new-in-RemoveVersions.ensures ∙ sym (ap (change_lines db) c.in-RemoveVersions.is)
+
+pub returns-in-Insert-clause-kept : goal.returns-in-Insert-clause-kept
+returns-in-Insert-clause-kept g c = c.insert_lines.ensures.kept
+
+pub returns-in-Insert-clause-cause : goal.returns-in-Insert-clause-cause
+returns-in-Insert-clause-cause g c = c.insert_lines.ensures.cause
+
+pub returns-in-Insert-clause-start : goal.returns-in-Insert-clause-start
+returns-in-Insert-clause-start g c = c.insert_lines.ensures.start
+
+pub returns-in-Insert-clause-asked : goal.returns-in-Insert-clause-asked
+returns-in-Insert-clause-asked g c = c.insert_lines.ensures.asked
+
+pub returns-in-Store-clause-kept : goal.returns-in-Store-clause-kept
+returns-in-Store-clause-kept g c = c.plan_lines.ensures.kept
+
+pub returns-in-Store-clause-cause : goal.returns-in-Store-clause-cause
+returns-in-Store-clause-cause g c = c.plan_lines.ensures.cause
+
+pub returns-in-Store-clause-start : goal.returns-in-Store-clause-start
+returns-in-Store-clause-start g c = c.plan_lines.ensures.start
+
+pub returns-in-Store-clause-asked : goal.returns-in-Store-clause-asked
+returns-in-Store-clause-asked g c = c.plan_lines.ensures.asked
+
+pub returns-in-Create-clause-kept : goal.returns-in-Create-clause-kept
+returns-in-Create-clause-kept g c = keeps_still (g.S.ChunkSource.state c.args.source.now)
+
+pub returns-in-Remove-clause-kept : goal.returns-in-Remove-clause-kept
+returns-in-Remove-clause-kept g c = keeps_still (g.S.ChunkSource.state c.args.source.now)
+
+pub returns-in-RemoveVersions-clause-kept : goal.returns-in-RemoveVersions-clause-kept
+returns-in-RemoveVersions-clause-kept g c = keeps_still (g.S.ChunkSource.state c.args.source.now)
