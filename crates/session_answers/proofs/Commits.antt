@@ -1,5 +1,5 @@
 -- The answers of a commit, by what came of it.
-use Rattle.std.proofs.Common.{◌≡◌, ◌∙◌, ◌+◌, ◌-◌, ◌^◌, ◌<◌, ◌≤◌, ℕ, false, List, [], ◌∷◌, ◌++◌, length, slice_get, inl, inr, Option, None, Some, Ok, refl, ap, sym, subst, arith, append-nil, length-append}
+use Rattle.std.proofs.Common.{◌≡◌, ◌∙◌, ◌+◌, ◌-◌, ◌^◌, ◌<◌, ◌≤◌, ℕ, false, List, [], ◌∷◌, ◌++◌, length, slice_get, inl, inr, Option, None, Some, Result, Ok, Err, IfErr, OnErr, refl, ap, sym, subst, arith, append-nil, length-append}
 use Rattle.std.proofs.lemmas.Bool.{eq-eqb}
 use Rattle.std.proofs.lemmas.Option.{none-some}
 use Rattle.afl_outside.specs.Disk.{Moment}
@@ -23,11 +23,16 @@ use Rattle.store_ledger.specs.declared.pinned.Pinned.{Pinned}
 use Rattle.store_ledger.specs.Ledger.{IsOpenPin, is_noted, is_tried}
 use Rattle.store_state.specs.declared.state.event.Event.{Event}
 use Rattle.store_state.specs.declared.state.event.Event.TheVariants.{Acknowledged}
+use Rattle.store_state.specs.declared.state.parts.StoreParts.{StoreParts}
 use Rattle.store_state.specs.Calls.{history_at}
 use Rattle.store_state.specs.Standings.{base_of}
 use Rattle.snapshot_manager.specs.Causes.{FitsAfter, IsUncommitted}
 use Rattle.snapshot_manager.specs.CommitFault.{CommitFault}
 use Rattle.snapshot_manager.specs.CommitFault.TheVariants as faults
+use Rattle.snapshot_manager.specs.Commits.{IfDone, IfStale, OnEnd}
+use Rattle.snapshot_manager.specs.Turn.{Turn}
+use Rattle.snapshot_manager.specs.declared.committing.Commit.{Commit as Made}
+use Rattle.snapshot_manager.specs.declared.committing.Commit.TheVariants.{Done, Stale}
 use Rattle.snapshot_manager.specs.Tries.{MakesCommit, TriesCommit}
 use Rattle.snapshot_manager.specs.Turns.{own_events, Adds}
 use Rattle.snapshot_manager.proofs.Telling.{entries_in-append}
@@ -42,7 +47,7 @@ use Rattle.snapshot_manager.specs.Told.{entries_in, ledger_of, told}
 use Rattle.session_sources.proofs.CourseLaws.{courses_join, courses_keep_notes, turns_are_courses}
 use Rattle.session_answers.proofs.Behind.{names_behind}
 use Rattle.session_answers.specs.AnsweredUnder.{IsAnsweredInTurn, IsAnsweredUnder}
-use Rattle.session_answers.specs.Inner.Steps.{AddsNoAct}
+use Rattle.session_answers.specs.Inner.Steps.{AddsNoAct, Tells}
 use Rattle.session_answers.proofs.Acts.{acts_behind, fault_is_own}
 use Rattle.session_answers.proofs.Tried.{change_at_commit, commit_place, fault_entries, before_commit, new_is, own_first, says_at_commit, try_acts, within_commit}
 
@@ -271,3 +276,31 @@ module _ {D : Type 0} (style : Style) (moment : D → Moment) (start : Start D) 
             room,
           );
         }
+
+  -- ---- what a reply tells of its commit
+
+  pub told_is_answered : {E : Type 0} (words : Told) (count : ℕ) (answer : Result (Made E) CommitFault) → Tells count words answer (Ok reply) → count ≡ length (entries_in new) →
+      IfDone (λ _. MakesCommit start pinned change old new) answer →
+      IfDone (λ place. place + 1 ≡ length (entries_in new)) answer →
+      IfDone (λ place. sequence_at (base_of (told start new)) (history_at (told start new) place) < 2 ^ 64 - 1) answer →
+      IfDone (λ place. FitsAfter moment (told start new) (history_at (told start new) place) change) answer →
+      OnErr answer (TriesCommit start pinned change [] old new) → IfErr answer (IsUncommitted moment pinned.session change (told start new)) →
+      Says style moment start old text tree (pinned.place + 1) (record { reply = words; change = Some change }) → Answered
+  told_is_answered words _ (Ok (Done place)) (same, at) counted done last next fits err cause speaks =
+      made_is_answered done words (had_room moment start new change place reply.place at next fits) speaks same (ap (λ (p : ℕ). p + 1) at ∙ last)
+  told_is_answered words _ (Ok (Stale turn)) tells counted done last next fits err cause speaks = elim tells [ ]
+  told_is_answered words _ (Err fault) tells counted done last next fits err cause speaks =
+      refused_is_answered err fault (subst (λ (n : ℕ). IsUncommittedReply n fault reply) counted tells) cause
+
+-- ---- what is left of a commit that was tried
+
+pub ended : {D : Type 0} {P : Type 0} (count : ℕ) (words : Told) (answer : Result (Made D) CommitFault) (reply : Reply) → Tells count words answer (Ok reply) → OnEnd P answer → P
+ended _ words (Ok (Done place)) reply tells end = end
+ended _ words (Ok (Stale turn)) reply tells end = elim tells [ ]
+ended _ words (Err fault) reply tells end = end
+
+pub left_stale : {D : Type 0} (P : Turn (StoreParts D) → Type 0) (count : ℕ) (words : Told) (answer : Result (Made D) CommitFault) (turn : Turn (StoreParts D)) →
+    Tells count words answer (Err turn) → IfStale P answer → P turn
+left_stale P _ words (Ok (Done place)) left tells stale = elim tells [ ]
+left_stale P _ words (Ok (Stale turn)) left tells stale = subst P (sym tells) stale
+left_stale P _ words (Err fault) left tells stale = elim tells [ ]

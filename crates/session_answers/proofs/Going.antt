@@ -15,7 +15,7 @@ use Rattle.afl_types.specs.Checking.{check_of}
 use Rattle.event_core.specs.Allowed.{is_pinned}
 use Rattle.event_core.specs.Cells.{at}
 use Rattle.statement_replies.specs.declared.answers.outcome.Outcome.{Outcome}
-use Rattle.statement_replies.specs.declared.answers.outcome.Outcome.TheVariants.{Changes}
+use Rattle.statement_replies.specs.declared.answers.outcome.Outcome.TheVariants.{Replied, Changes}
 use Rattle.statement_replies.specs.Outcomes.{HasOutcomeKind, IsMadeOf, IsOutcomeOf, IsToldBy, MayFail}
 use Rattle.statement_replies.specs.declared.replies.replies.Reply.{Reply as Told}
 use Rattle.statement_replies.specs.Reading.{HoldsVersions}
@@ -38,7 +38,8 @@ use Rattle.session_sources.specs.declared.holding.LentTurn.{LentTurn}
 use Rattle.session_sources.specs.declared.marks.Marks.{Marks}
 use Rattle.session_sources.proofs.VersionLaws.{held_sources_hold_versions}
 use Rattle.session_answers.specs.BehindPins.{ComesOver}
-use Rattle.session_answers.specs.Inner.Turns.{store_in, IsRead, IsWhy, KeepsTurn}
+use Rattle.session_answers.specs.Inner.Turns.{store_in, Follows, Goes, IsRead, IsWhy, KeepsTurn, goes_told, goes_tried, goes_unread}
+use Rattle.session_answers.specs.declared.replies.reply.Reply.{Reply}
 use Rattle.session_answers.proofs.Adding.{all_append}
 use Rattle.session_answers.proofs.Present.{source_tells}
 
@@ -135,3 +136,16 @@ module _ {D : Type 0} (moment : D → Moment) (style : Style) (session : ℕ) (o
         told = λ db began. may_be_made (at db (history (store_of old).ledger)) change changed
             (over.told (at db (history (store_of old).ledger)) (source_tells moment session old has db began)).1;
       })
+
+-- ---- the statement goes as it was read and answered
+
+module _ {D : Type 0} (moment : D → Moment) (style : Style) (session : ℕ) (old between new : Turn (StoreParts D)) (text : List ℕ) (tree : Term) (reply : Reply) where
+  pub goes_on : (outcome : Result Outcome ExecFault) → IsRead style moment session old between text tree outcome → Follows moment session between new reply outcome →
+      Goes style moment session old new text tree reply
+  goes_on (Ok (Replied words)) read (same, said, at) =
+      let now : IsRead style moment session old new text tree (Ok (Replied words)) =
+      subst (λ (turn : Turn (StoreParts D)). IsRead style moment session old turn text tree (Ok (Replied words))) (sym same) read in
+      goes_told (subst (λ (ws : Told). IsRead style moment session old new text tree (Ok (Replied ws))) (sym said) now) at
+  goes_on (Ok (Changes change changed words)) read tried = goes_tried between change changed words read tried
+  goes_on (Err fault) read (same, said, at) =
+      goes_unread fault (subst (λ (turn : Turn (StoreParts D)). IsRead style moment session old turn text tree (Err fault)) (sym same) read) said at

@@ -1,5 +1,5 @@
 -- What is known between the steps of an answer under a pin.
-use Rattle.std.specs.Prelude.{◌≡◌, ℕ, List, [], false, Result, IfOk, IfErr}
+use Rattle.std.specs.Prelude.{◌≡◌, ℕ, List, [], false, Result, Ok, Err, IfOk, IfErr}
 use Rattle.afl_outside.specs.Disk.{Moment}
 use Rattle.afl_trees.specs.Term.{Term}
 use Rattle.afl_types.specs.Checking.{check_of}
@@ -12,7 +12,16 @@ use Rattle.store_ledger.specs.Ledger.{is_fault, is_noted}
 use Rattle.store_state.specs.declared.state.event.Event.{Event}
 use Rattle.session_answers.specs.Acts.{acts_in}
 use Rattle.session_answers.specs.BehindPins.{ComesOver}
+use Rattle.snapshot_manager.specs.CommitFault.{CommitFault}
+use Rattle.snapshot_manager.specs.declared.committing.Commit.{Commit}
+use Rattle.snapshot_manager.specs.declared.committing.Commit.TheVariants.{Done, Stale}
 use Rattle.snapshot_manager.specs.Start.{Start}
+use Rattle.snapshot_manager.specs.Turn.{Turn}
+use Rattle.statement_replies.specs.declared.replies.replies.Reply.{Reply as Told}
+use Rattle.store_state.specs.declared.state.parts.StoreParts.{StoreParts}
+use Rattle.session_answers.specs.Refusals.{IsUncommittedReply}
+use Rattle.session_answers.specs.Replies.{words_of}
+use Rattle.session_answers.specs.declared.replies.reply.Reply.{Reply}
 use Rattle.session_answers.specs.Under.{SaysWhy}
 use Rattle.session_sources.specs.declared.marks.Marks.{Marks}
 use Rattle.session_sources.specs.Courses.{AddsOwn}
@@ -38,3 +47,12 @@ pub record AddsNoAct {D : Type 0} (start : Start D) (session : ℕ) (first own o
   pub adds : AddsOwn session own first old
   pub acts : acts_in own ≡ []
   pub untried : is_noted is_fault (ledger_of start first) session ≡ false
+
+-- the reply to a commit that was tried, when so many entries were seen then; or the turn in which the change was stale
+abbrev pub Tells : {D : Type 0} → ℕ → Told → Result (Commit D) CommitFault → Result Reply (Turn (StoreParts D)) → Type 0
+Tells count words (Ok (Done place)) (Ok reply) = (words_of reply ≡ words) × (reply.place ≡ place)
+Tells count words (Ok (Done place)) (Err left) = ⊥
+Tells count words (Ok (Stale turn)) (Ok reply) = ⊥
+Tells count words (Ok (Stale turn)) (Err left) = left ≡ turn
+Tells count words (Err fault) (Ok reply) = IsUncommittedReply count fault reply
+Tells count words (Err fault) (Err left) = ⊥

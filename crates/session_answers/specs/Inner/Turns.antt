@@ -74,6 +74,14 @@ pub record IsTried {D : Type 0} (moment : D → Moment) (session : ℕ) (change 
   pub cause : IfErr answer (IsUncommitted moment session change new)
   pub tells : TellsCommit (length new.ledger.entries) words answer reply
 
+-- what came of a statement is answered, and the turn is the same, or a change was tried in it
+abbrev pub Follows : {D : Type 0} → (D → Moment) → ℕ → Turn (StoreParts D) → Turn (StoreParts D) → Reply → Result Outcome ExecFault → Type 0
+Follows moment session old new reply (Ok (Replied words)) =
+    (new ≡ old) × (words_of reply ≡ words) × (reply.place ≡ length (store_of new).ledger.entries)
+Follows moment session old new reply (Ok (Changes change changed words)) =
+    IsTried moment session change words (store_in moment old) (store_in moment new) reply
+Follows moment session old new reply (Err fault) = (new ≡ old) × IsUnreadReply fault reply × (reply.place ≡ length (store_of new).ledger.entries)
+
 -- HOW A STATEMENT GOES: no memory was found for the names; it has a reply alone; its source gave no answer; or its change was tried
 pub data Goes {D : Type 0} (style : Style) (moment : D → Moment) (session : ℕ) (old new : Turn (StoreParts D))
     (text : List ℕ) (tree : Term) (reply : Reply) : Type 0 where

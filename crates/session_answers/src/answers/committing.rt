@@ -12,7 +12,7 @@ ghost use Rattle.snapshot_manager.specs.Databases.{IsDatabaseOf};
 ghost use Rattle.snapshot_manager.specs.Prepared.{MayBeMade};
 ghost use Rattle.snapshot_manager.specs.Seats.{ledger_seen, read_count, seen, start, store_seen, HoldsPin, IsIdle, IsSameSeat, IsSeatOf};
 ghost use Rattle.session_answers.specs.AnsweredUnder.{IsAnsweredUnder};
-ghost use Rattle.session_answers.specs.Inner.Steps.{AddsNoAct};
+ghost use Rattle.session_answers.specs.Inner.Steps.{AddsNoAct, Tells};
 
 use crate::replies::{Reply, at_place, uncommitted};
 use crate::turns::{Options, answer_held};
@@ -20,7 +20,7 @@ use afl_outside::{Disk, Gate};
 use afl_trees::Tree;
 use array_geom::Changed;
 use plan_changes::Change;
-use snapshot_manager::{Commit, Seat, Shared};
+use snapshot_manager::{Commit, CommitFault, Seat, Shared, StoreTurn};
 use statement_replies::{Reply as Words, let_go_reply};
 use std::alloc::Global;
 use std::sync::Wait;
@@ -64,18 +64,33 @@ pub(crate) fn commit<D: Disk, R: Threads + Wait + Sync, G: Gate>(
         first (seen result.1) text.now tree.now result.0 }
 {
     let mut seat = seat;
-    match shared.commit(rt, alloc, &mut seat, pinned, change, changed) {
-        Ok(Commit::Done { place }) => (at_place(words, place), seat),
+    let answer = shared.commit(rt, alloc, &mut seat, pinned, change, changed);
+    match tell(alloc, answer, words, seat.seen()) {
+        Ok(reply) => (reply, seat),
+        Err(turn) => answer_held(
+            rt, alloc, shared, seat, turn, pinned, text, tree, options, gate,
+        ),
+    }
+}
+
+/// The reply to a commit that was tried, when so many entries were seen; or the turn in which the change was stale.
+fn tell<D: Disk>(
+    alloc: Global,
+    answer: Result<Commit<D>, CommitFault>,
+    words: Words,
+    count: u64,
+) -> Result<Reply, StoreTurn<D>>
+    ensures { Tells count words answer result }
+{
+    match answer {
+        Ok(Commit::Done { place }) => Ok(at_place(words, place)),
         Ok(Commit::Stale(turn)) => {
             let_go_reply(words);
-            answer_held(
-                rt, alloc, shared, seat, turn, pinned, text, tree, options, gate,
-            )
+            Err(turn)
         }
         Err(fault) => {
             let_go_reply(words);
-            let seen = seat.seen();
-            (uncommitted(alloc, fault, seen), seat)
+            Ok(uncommitted(alloc, fault, count))
         }
     }
 }

@@ -1,10 +1,13 @@
 //! Answers in a turn that is held.
-ghost use Rattle.std.specs.Prelude.{◌≡◌, ◌≤◌, false, length, Ok as Good, IsTrue};
+ghost use Rattle.std.specs.Prelude.{◌≡◌, ◌≤◌, false, length, Ok as Good, IsTrue, Option};
 ghost use Rattle.check_exprs.specs.Laws.{leaves_fit};
 ghost use Rattle.plan_changes.specs.declared.change.Change.{Change};
 ghost use Rattle.plan_changes.specs.Stored.{AreStored};
 ghost use Rattle.afl_types.specs.Checking.{check_of};
 ghost use Rattle.afl_types.specs.declared.types.statements.checking.Typed.TheVariants.{Change as AChange};
+ghost use Rattle.array_geom.specs.declared.chunk.Changed.{Changed};
+ghost use Rattle.statement_replies.specs.declared.answers.outcome.Outcome.TheVariants.{Changes};
+ghost use Rattle.statement_replies.specs.declared.replies.replies.Reply.{Reply as Words};
 ghost use Rattle.event_core.specs.Allowed.{is_pinned};
 ghost use Rattle.store_ledger.specs.Ledger.{history, is_noted, is_tried};
 ghost use Rattle.store_state.specs.At.{standing};
@@ -15,7 +18,7 @@ ghost use Rattle.session_sources.specs.Held.{names_now};
 ghost use Rattle.snapshot_manager.specs.Prepared.{IsAsked};
 ghost use Rattle.snapshot_manager.specs.Seats.{ledger_seen, read_count, seen, start, store_of, HasTurn, HoldsPin, IsIdle, IsSameSeat, IsSeatOf};
 ghost use Rattle.snapshot_manager.specs.Told.{IsTold};
-ghost use Rattle.session_answers.specs.Inner.Turns.{store_in, Goes, IsTried, KeepsTurn, TellsCommit};
+ghost use Rattle.session_answers.specs.Inner.Turns.{store_in, Follows, Goes, IsTried, KeepsTurn, TellsCommit};
 ghost use Rattle.session_answers.specs.AnsweredUnder.{IsAnsweredInTurn};
 
 use crate::replies::{Reply, at_place, uncommitted, unread, want};
@@ -24,6 +27,7 @@ use afl_outside::{Disk, Gate};
 use afl_trees::Tree;
 use array_geom::Changed;
 use cell_values::Memory;
+use chunk_source::ExecFault;
 use logical_plan::Names;
 use plan_changes::Change;
 use session_sources::HeldSource;
@@ -144,7 +148,24 @@ fn answer_over<D: Disk, R: Threads + Sync, G: Gate>(
         session,
         gate,
     );
-    let mut turn = source.into_turn();
+    answer_read(alloc, source.into_turn(), session, outcome)
+}
+
+/// Answers what came of a statement that was read in a turn.
+fn answer_read<D: Disk>(
+    alloc: Global,
+    turn: StoreTurn<D>,
+    session: u32,
+    outcome: Result<Outcome, ExecFault>,
+) -> (Reply, StoreTurn<D>)
+    requires pinned { IsTrue (is_pinned session (history (store_of turn).ledger)) }
+    requires tried { is_noted is_tried (store_of turn).ledger session ≡ false }
+    requires asked { (change : Change) (changed : Option Changed) (words : Words) → outcome ≡ Good (Changes change changed words)
+        → IsAsked D.moment (store_in D.moment turn) change changed }
+    ensures keeps { KeepsTurn D.moment session turn result.1 }
+    ensures follows { Follows D.moment session turn result.1 result.0 outcome }
+{
+    let mut turn = turn;
     let place = turn.value().history().len() as u64;
     match outcome {
         Ok(Outcome::Replied(words)) => (at_place(words, place), turn),

@@ -1,8 +1,5 @@
-use Rattle.std.proofs.Common.{◌∙◌, ap, length, subst, sym, Ok}
-use Rattle.statement_replies.specs.declared.answers.outcome.Outcome.TheVariants.{Replied}
-use Rattle.snapshot_manager.specs.Lent.{turn_with}
-use Rattle.session_answers.specs.Inner.Turns.{IsRead, goes_told, goes_tried, goes_unread}
-use Rattle.session_answers.proofs.Going.{asked_read, keeps_both, keeps_read, pinned_read, read_by, start_holds, start_whole, tried_read}
+use Rattle.session_answers.specs.Inner.Turns.{IsRead}
+use Rattle.session_answers.proofs.Going.{asked_read, goes_on, keeps_both, keeps_read, pinned_read, read_by, start_holds, start_whole, tried_read}
 use Rattle.session_answers.proofs.turns.held.answer_over.Goals as goal
 
 pub outcome_of-outcome-requires-clause-undamaged : goal.outcome_of-outcome-requires-clause-undamaged
@@ -13,74 +10,35 @@ pub outcome_of-outcome-requires-clause-holds : goal.outcome_of-outcome-requires-
 outcome_of-outcome-requires-clause-holds g c κs within =
     start_holds g.D.Disk.moment c.args.session c.args.turn c.new-source.result c.new-source.ensures c.args.names.now c.requires.names
 
-pub commit_in_turn-requires : goal.commit_in_turn-requires
-commit_in_turn-requires g c =
+pub answer_read-requires : goal.answer_read-requires
+answer_read-requires g c =
     let moment = g.D.Disk.moment in
     let style = c.args.options.now.style in
     let o = c.outcome_of-outcome in
-    let arm = c.in-Ok-Changes in
-    let new = turn_with c.into_turn-turn.result c.value.result.now in
+    let new = c.into_turn.result in
     let read : IsRead style moment c.args.session c.args.turn new c.args.text.now c.args.tree.now o.result =
     read_by moment c.args.session c.args.turn c.new-source.result c.new-source.ensures c.args.names.now c.requires.names style new o.new.source o.ensures.start
-    (ap (turn_with c.into_turn-turn.result) c.value.ensures.value ∙ c.into_turn-turn.ensures.turn) c.into_turn-turn.ensures.held
+    c.into_turn.ensures.turn c.into_turn.ensures.held
     c.args.text.now c.args.tree.now o.result o.ensures.kind o.ensures.told o.ensures.cause o.ensures.allowed in record {
       pinned = pinned_read moment style c.args.session c.args.turn new c.requires.database c.args.text.now c.args.tree.now o.result read;
       tried = tried_read moment style c.args.session c.args.turn new c.requires.database c.args.text.now c.args.tree.now o.result read c.requires.tried;
-      asked = asked_read moment style c.args.session c.args.turn new c.requires.database c.args.text.now c.args.tree.now o.result read
-          arm.change arm.changed arm.reply (arm.is ∙ ap Ok arm.field-0-is);
+      asked = asked_read moment style c.args.session c.args.turn new c.requires.database c.args.text.now c.args.tree.now o.result read;
     }
 
-pub returns-in-Ok-Replied : goal.returns-in-Ok-Replied
-returns-in-Ok-Replied g c =
+pub returns : goal.returns
+returns g c =
     let moment = g.D.Disk.moment in
     let style = c.args.options.now.style in
     let o = c.outcome_of-outcome in
-    let arm = c.in-Ok-Replied in
-    let new = turn_with c.into_turn-turn.result c.value.result.now in
+    let new = c.into_turn.result in
     let read : IsRead style moment c.args.session c.args.turn new c.args.text.now c.args.tree.now o.result =
     read_by moment c.args.session c.args.turn c.new-source.result c.new-source.ensures c.args.names.now c.requires.names style new o.new.source o.ensures.start
-    (ap (turn_with c.into_turn-turn.result) c.value.ensures.value ∙ c.into_turn-turn.ensures.turn) c.into_turn-turn.ensures.held
+    c.into_turn.ensures.turn c.into_turn.ensures.held
     c.args.text.now c.args.tree.now o.result o.ensures.kind o.ensures.told o.ensures.cause o.ensures.allowed in record {
-      keeps = keeps_read moment c.args.session c.args.turn new read.marks read.held;
-      goes = goes_told
-          (subst (λ x. IsRead style moment c.args.session c.args.turn new c.args.text.now c.args.tree.now x)
-          (arm.is ∙ ap Ok arm.field-0-is ∙ ap (λ words. Ok (Replied words)) (sym c.at_place.ensures.words)) read)
-          (c.at_place.ensures.place ∙ ap length c.history.ensures);
-    }
-
-pub returns-in-Ok-Changes : goal.returns-in-Ok-Changes
-returns-in-Ok-Changes g c =
-    let moment = g.D.Disk.moment in
-    let style = c.args.options.now.style in
-    let o = c.outcome_of-outcome in
-    let arm = c.in-Ok-Changes in
-    let new = turn_with c.into_turn-turn.result c.value.result.now in
-    let read : IsRead style moment c.args.session c.args.turn new c.args.text.now c.args.tree.now o.result =
-    read_by moment c.args.session c.args.turn c.new-source.result c.new-source.ensures c.args.names.now c.requires.names style new o.new.source o.ensures.start
-    (ap (turn_with c.into_turn-turn.result) c.value.ensures.value ∙ c.into_turn-turn.ensures.turn) c.into_turn-turn.ensures.held
-    c.args.text.now c.args.tree.now o.result o.ensures.kind o.ensures.told o.ensures.cause o.ensures.allowed in record {
-      keeps = keeps_both moment c.args.session c.args.turn new c.commit_in_turn.result.1
-          (keeps_read moment c.args.session c.args.turn new read.marks read.held) c.commit_in_turn.ensures.keeps;
-      goes = goes_tried new arm.change arm.changed arm.reply
-          (subst (λ x. IsRead style moment c.args.session c.args.turn new c.args.text.now c.args.tree.now x) (arm.is ∙ ap Ok arm.field-0-is) read)
-          c.commit_in_turn.ensures.tried;
-    }
-
-pub returns-in-Err : goal.returns-in-Err
-returns-in-Err g c =
-    let moment = g.D.Disk.moment in
-    let style = c.args.options.now.style in
-    let o = c.outcome_of-outcome in
-    let arm = c.in-Err in
-    let new = turn_with c.into_turn-turn.result c.value.result.now in
-    let read : IsRead style moment c.args.session c.args.turn new c.args.text.now c.args.tree.now o.result =
-    read_by moment c.args.session c.args.turn c.new-source.result c.new-source.ensures c.args.names.now c.requires.names style new o.new.source o.ensures.start
-    (ap (turn_with c.into_turn-turn.result) c.value.ensures.value ∙ c.into_turn-turn.ensures.turn) c.into_turn-turn.ensures.held
-    c.args.text.now c.args.tree.now o.result o.ensures.kind o.ensures.told o.ensures.cause o.ensures.allowed in record {
-      keeps = keeps_read moment c.args.session c.args.turn new read.marks read.held;
-      goes = goes_unread arm.fault
-          (subst (λ x. IsRead style moment c.args.session c.args.turn new c.args.text.now c.args.tree.now x) arm.is read)
-          c.unread.ensures.words (c.unread.ensures.place ∙ ap length c.history.ensures);
+      keeps = keeps_both moment c.args.session c.args.turn new c.answer_read.result.1
+          (keeps_read moment c.args.session c.args.turn new read.marks read.held) c.answer_read.ensures.keeps;
+      goes = goes_on moment style c.args.session c.args.turn new c.answer_read.result.1 c.args.text.now c.args.tree.now c.answer_read.result.0
+          o.result read c.answer_read.ensures.follows;
     }
 
 pub outcome_of-outcome-requires-clause-fit : goal.outcome_of-outcome-requires-clause-fit
