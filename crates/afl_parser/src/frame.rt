@@ -140,15 +140,12 @@ impl Frame {
         requires tree { height tree + 1 < 2 ^ 64 }
         ensures { IfOk result (λ t. t ≡ close self tree) }
     {
+        let end = span_of(tree.tree());
         match self {
-            Frame::Not(start) => Grown::opposite(alloc, across(start, span_of(tree.tree())), tree),
-            Frame::Minus(start) => Grown::negative(
-                alloc,
-                across(start, span_of(tree.tree())),
-                tree,
-            ),
+            Frame::Not(start) => Grown::opposite(alloc, across(start, end), tree),
+            Frame::Minus(start) => Grown::negative(alloc, across(start, end), tree),
             Frame::Left(op, left) => {
-                let span = across(span_of(left.tree()), span_of(tree.tree()));
+                let span = across(span_of(left.tree()), end);
                 Grown::binary(alloc, span, op, left, tree)
             }
             Frame::Group(_) | Frame::Call(_, _, _) => Ok(tree),
