@@ -5,8 +5,13 @@ use Rattle.std.proofs.lemmas.Option.{slice_get_within, get_or_from_slice_get}
 use Rattle.turn_lock.specs.Seats.{AreNewSeats as AreNewTurnSeats, IsNewSeat as IsNewTurnSeat}
 use Rattle.turn_lock.specs.declared.turns.seat.LockSeat.{LockSeat}
 use Rattle.turn_lock.proofs.Gathering.{places_more}
+use Rattle.afl_outside.specs.Disk.{Moment}
+use Rattle.event_core.specs.declared.entry.Entry.{Entry}
+use Rattle.store_ledger.specs.declared.note.Note.{Note}
 use Rattle.array_store.specs.Event.{Event}
 use Rattle.array_store.specs.StoreParts.{StoreParts}
+use Rattle.array_store.specs.At.{standing}
+use Rattle.array_store.specs.Events.{events}
 use Rattle.snapshot_manager.specs.declared.seat.Seat.{Seat}
 use Rattle.snapshot_manager.specs.declared.shared.Shared.{Shared}
 use Rattle.snapshot_manager.specs.Seats.{AreIdleSeats, AreNewSeats, IsIdleAt, IsNewSeat}
@@ -31,6 +36,14 @@ module _ {A : Type 0} where
 
   pub less_one : (xs ys zs : List A) (n : ℕ) → ys ≡ drop n xs → zs ≡ remove ys 0 → zs ≡ drop (n + 1) xs
   less_one xs ys zs n is e = e ∙ ap (drop 1) is ∙ drop-drop 1 n xs
+
+-- a store in which nothing was done yet has no event
+pub no_event : {D : Type 0} (moment : D → Moment) (parts : StoreParts D) → parts.ledger.entries ≡ [] → parts.ledger.notes ≡ [] → events (standing moment parts) ≡ []
+no_event moment parts entries notes =
+    let s = standing moment parts in
+    let ledger = parts.ledger in
+    ap (λ (es : List Entry). events (record s { ledger = record ledger { entries = es } })) entries
+    ∙ ap (λ (ns : List Note). events (record s { ledger = record ledger { entries = []; notes = ns } })) notes
 
 module _ {D : Type 0} (shared : Shared D) where
   new_turn_seat : (seats : List (LockSeat (StoreParts D) Event)) (n : ℕ) (seat : LockSeat (StoreParts D) Event) → AreNewTurnSeats shared.lock seats → slice_get seats n ≡ Some seat →

@@ -26,4 +26,5 @@ pub use Rattle.turn_lock.specs.Inner.Lent
 pub use Rattle.turn_lock.specs.Owners
 pub use Rattle.turn_lock.specs.declared.turns.seat.Turn
 pub mod Commits
+pub mod Inner
 pub mod Seats

@@ -1,21 +1,21 @@
 //! Commits of a store that is shared.
-ghost use Rattle.std.specs.Prelude.{◌≡◌, ◌+◌, ◌-◌, ◌^◌, ◌<◌, [], false, length, IfErr, IfOk, IfSome, OnErr, OnOk, IsTrue};
+ghost use Rattle.std.specs.Prelude.{◌≡◌, ◌+◌, ◌-◌, ◌^◌, ◌<◌, [], false, length, IfErr, IfOk, IfSome, OnErr, OnOk};
 ghost use Rattle.array_store.specs.Changes.{AreValid, ComesWith};
 ghost use Rattle.plan_changes.specs.Databases.{Database};
 ghost use Rattle.plan_changes.specs.Stored.{HasItsNames};
 ghost use Rattle.plan_changes.specs.Typed.{IsTypedFor};
-ghost use Rattle.event_core.specs.Allowed.{is_pinned};
 ghost use Rattle.event_core.specs.Bases.{sequence_at};
 ghost use Rattle.event_core.specs.History.{names_at};
-ghost use Rattle.store_ledger.specs.Ledger.{history, is_noted, is_tried};
+ghost use Rattle.store_ledger.specs.Ledger.{is_noted, is_tried};
 ghost use Rattle.array_store.specs.At.{standing};
 ghost use Rattle.array_store.specs.Calls.{database_with, history_at};
 ghost use Rattle.array_store.specs.Events.{events};
 ghost use Rattle.array_store.specs.Standings.{base_of, BeganAs};
-ghost use Rattle.array_store.specs.Prepared.{IsAsked, MayBeMade};
+ghost use Rattle.array_store.specs.Prepared.{MayBeMade};
 ghost use Rattle.array_store.specs.Starts.{start_of};
 ghost use Rattle.array_store.specs.Causes.{FitsAfter, IsUncommitted};
 ghost use Rattle.snapshot_manager.specs.Commits.{IfDone, IfStale, OnEnd};
+ghost use Rattle.snapshot_manager.specs.Inner.Trying.{MayTry};
 ghost use Rattle.array_store.specs.Tries.{is_fresh_since, MakesCommit, MakesHere, TriesCommit, TriesHere};
 ghost use Rattle.snapshot_manager.specs.Seats.{ledger_seen, read_count, seen, session_of, start, store_of};
 ghost use Rattle.snapshot_manager.specs.Seats.{store_seen, HasTurn, HoldsPin, IsIdle, IsSameSeat, IsSeatOf};
@@ -26,7 +26,7 @@ use crate::seat::Seat;
 use crate::shared::{Shared, StoreTurn};
 use afl_outside::Disk;
 use array_geom::Changed;
-use array_store::{CommitFault, commit, fresh_changes_may_be_made, fresh_changes_stay, give_up};
+use array_store::{CommitFault, commit, give_up};
 use plan_changes::Change;
 use std::alloc::Global;
 use std::sync::Wait;
@@ -85,8 +85,6 @@ impl<D: Disk> Shared<D> {
         ensures err { OnErr result (TriesCommit (start D.moment self.now) pinned.now change [] (seen seat.old) (seen seat.new)) }
         ensures cause { IfErr result (IsUncommitted D.moment pinned.now.session change (store_seen D.moment self.now seat.new)) }
     {
-        fresh_changes_may_be_made();
-        fresh_changes_stay();
         let mut turn = self.begin(rt, seat);
         let is_fresh = turn.value().fresh(pinned, &change);
         if is_fresh {
@@ -113,14 +111,7 @@ impl<D: Disk> Shared<D> {
         change: Change,
         changed: Option<Changed>,
     ) -> Result<u64, CommitFault>
-        requires seat { IsSeatOf self.now seat.old × HasTurn seat.old turn }
-        requires session { pinned.now.session ≡ session_of seat.old }
-        requires start { start_of (standing D.moment (store_of turn)) ≡ start D.moment self.now }
-        requires events { events (standing D.moment (store_of turn)) ≡ seen seat.old }
-        requires told { IsTold (start D.moment self.now) (seen seat.old) (standing D.moment (store_of turn)) }
-        requires pinned { IsTrue (is_pinned pinned.now.session (history (store_of turn).ledger)) }
-        requires tried { is_noted is_tried (store_of turn).ledger pinned.now.session ≡ false }
-        requires asked { IsAsked D.moment (standing D.moment (store_of turn)) change changed }
+        requires { MayTry D.moment self.now seat.old pinned.now turn change changed }
         ensures seat { IsSeatOf self.now seat.new × IsIdle seat.new }
         ensures same { IsSameSeat seat.old seat.new }
         ensures reads { read_count seat.new ≡ read_count seat.old }

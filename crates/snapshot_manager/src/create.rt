@@ -1,7 +1,7 @@
 //! How a store is shared.
 ghost use Rattle.std.specs.Prelude.{◌≡◌, ◌+◌, ◌≤◌, ◌<◌, [], length, remove, slice_get, IfOk, IfErr, Some, vec_capacity};
 ghost use Rattle.turn_lock.specs.Seats.{AreNewSeats as AreNewTurnSeats};
-ghost use Rattle.snapshot_manager.specs.Seats.{first_store, seats_in_all, AddsFirst, AreNewSeats};
+ghost use Rattle.snapshot_manager.specs.Seats.{first_store, seats_in_all, AreNewSeats};
 
 use crate::seat::Seat;
 use crate::shared::Shared;
@@ -60,28 +60,17 @@ impl<D: Disk> Shared<D> {
     {
         let count = turn_seats.len();
         for _ in 0..count {
-            seat_next(&mut turn_seats, &mut room);
+            let turn_seat = take_first(&mut turn_seats);
+            room.push_reserved(Seat {
+                turn_seat,
+                entries: 0,
+                last: 0,
+                reads: 0,
+            });
         }
         let_go_all(turn_seats);
         List::from_vec(room)
     }
-}
-
-/// Makes the first of the lock's seats that of a session which has done nothing yet.
-fn seat_next<D: Disk>(turn_seats: &mut List<TurnSeat<Store<D>>>, room: &mut Vec<Seat<D>>)
-    requires some { 0 < length turn_seats.old }
-    requires room { length room.old.items < vec_capacity room.old }
-    ensures rest { turn_seats.new ≡ remove turn_seats.old 0 }
-    ensures capacity { vec_capacity room.new ≡ vec_capacity room.old }
-    ensures made { AddsFirst turn_seats.old room.old.items room.new.items }
-{
-    let turn_seat = take_first(turn_seats);
-    room.push_reserved(Seat {
-        turn_seat,
-        entries: 0,
-        last: 0,
-        reads: 0,
-    });
 }
 
 /// Takes the first seat out. It may be one of any value, so that nothing of a store has to be let go for it.

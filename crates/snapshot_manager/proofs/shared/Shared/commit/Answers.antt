@@ -3,7 +3,9 @@ use Rattle.array_store.specs.At.{standing}
 use Rattle.array_store.specs.Events.{events}
 use Rattle.array_store.specs.Starts.{start_of}
 use Rattle.array_store.specs.Tries.{is_fresh_since}
+use Rattle.array_store.proofs.Fresh.{changes_are_typed}
 use Rattle.array_store.proofs.InTurn.{is_now, ledger_is, open_left, open_pin_now, pinned_now}
+use Rattle.array_store.proofs.Made.{may_be_made}
 use Rattle.array_store.proofs.TriedTurns.{asked_in_turn, open_made, open_tried, turn_makes, turn_tries, untried_in_turn}
 use Rattle.snapshot_manager.specs.Seats.{seen, session_of, start}
 use Rattle.snapshot_manager.proofs.shared.Shared.commit.Goals as goal
@@ -20,19 +22,20 @@ commit_fresh-requires g c =
     let b = c.begin-turn.ensures in
     let p = c.requires.pin in
     let moment = g.D.Disk.moment in record {
-      seat = b.seat;
+      here = b.seat.0;
+      has_turn = b.seat.1;
       session = p.own ∙ sym b.same.session;
-      start = ap (λ q. start_of (standing moment q)) c.value.ensures.value ∙ b.start;
-      events = ap (λ q. events (standing moment q)) c.value.ensures.value ∙ b.events;
+      begun = ap (λ q. start_of (standing moment q)) c.value.ensures.value ∙ b.start;
+      found = ap (λ q. events (standing moment q)) c.value.ensures.value ∙ b.events;
       told = is_now g.D.Disk.moment (start g.D.Disk.moment c.args.self.now) (session_of c.args.seat.now) (seen c.args.seat.now) (seen c.begin-turn.new.seat)
           c.value.result.now c.begin-turn.result.value b.found c.value.ensures.value b.told;
-      pinned = pinned_now g.D.Disk.moment (start g.D.Disk.moment c.args.self.now) (session_of c.args.seat.now) (seen c.args.seat.now) (seen c.begin-turn.new.seat)
+      open_pin = pinned_now g.D.Disk.moment (start g.D.Disk.moment c.args.self.now) (session_of c.args.seat.now) (seen c.args.seat.now) (seen c.begin-turn.new.seat)
           c.value.result.now c.begin-turn.result.value b.found c.value.ensures.value b.told c.args.pinned.now p.own p.open_pin;
-      tried = untried_in_turn g.D.Disk.moment (start g.D.Disk.moment c.args.self.now) (session_of c.args.seat.now) (seen c.args.seat.now) (seen c.begin-turn.new.seat)
+      untried = untried_in_turn g.D.Disk.moment (start g.D.Disk.moment c.args.self.now) (session_of c.args.seat.now) (seen c.args.seat.now) (seen c.begin-turn.new.seat)
           c.value.result.now c.begin-turn.result.value b.found c.value.ensures.value b.told c.args.pinned.now p.own p.open_pin c.requires.tried;
       asked = asked_in_turn g.D.Disk.moment (start g.D.Disk.moment c.args.self.now) (session_of c.args.seat.now) (seen c.args.seat.now) (seen c.begin-turn.new.seat)
           c.value.result.now c.begin-turn.result.value b.found c.value.ensures.value b.told c.args.pinned.now p.own p.open_pin
-          c.fresh_changes_stay.ensures.typed c.fresh_changes_may_be_made.ensures.changes c.args.change c.args.changed
+          changes_are_typed may_be_made c.args.change c.args.changed
           c.requires.named c.requires.typed c.requires.comes c.requires.valid c.requires.told (c.fresh-is_fresh.ensures.same c.if-is_fresh.true);
     }
 

@@ -1,7 +1,10 @@
-use Rattle.std.proofs.Common.{◌≡◌, ◌∙◌, [], ap, sym, subst}
+use Rattle.std.proofs.Common.{◌≡◌, ◌∙◌, [], IsTrue, ap, false, sym, subst}
+use Rattle.event_core.specs.Allowed.{is_pinned}
+use Rattle.store_ledger.specs.Ledger.{history, is_noted, is_tried}
 use Rattle.turn_lock.specs.Owners.{ExtendsByOwn}
 use Rattle.array_store.specs.At.{standing}
 use Rattle.array_store.specs.Events.{events, owner_of}
+use Rattle.array_store.specs.Prepared.{IsAsked}
 use Rattle.array_store.specs.Starts.{start_of}
 use Rattle.array_store.proofs.Added.{if_ok, on_ok}
 use Rattle.array_store.specs.Told.{IsTold}
@@ -10,16 +13,26 @@ use Rattle.array_store.proofs.Turning.{if_err, on_err}
 use Rattle.snapshot_manager.specs.Seats.{seen, start}
 use Rattle.snapshot_manager.proofs.shared.Shared.commit_fresh.Goals as goal
 
+pub commit-answer-requires : goal.commit-answer-requires
+commit-answer-requires g c =
+    let moment = g.D.Disk.moment in
+    let session = c.args.pinned.now.session in
+    let same = sym c.value.ensures.value in record {
+      pinned = subst (λ p. IsTrue (is_pinned session (history p.ledger))) same c.requires.open_pin;
+      tried = subst (λ p. is_noted is_tried p.ledger session ≡ false) same c.requires.untried;
+      asked = subst (λ p. IsAsked moment (standing moment p) c.args.change c.args.changed) same c.requires.asked;
+    }
+
 pub end-requires : goal.end-requires
 end-requires g c =
     let moment = g.D.Disk.moment in
     let session = c.args.pinned.now.session in
     let s = standing moment c.value.result.now in
     let n = standing moment c.commit-answer.new.store in
-    let are : events s ≡ seen c.args.seat.now = ap (λ p. events (standing moment p)) c.value.ensures.value ∙ c.requires.events in record {
-      seat = c.requires.seat;
+    let are : events s ≡ seen c.args.seat.now = ap (λ p. events (standing moment p)) c.value.ensures.value ∙ c.requires.found in record {
+      seat = (c.requires.here, c.requires.has_turn);
       start = commit_start session c.args.change (seen c.args.seat.now) s n are c.commit-answer.result c.commit-answer.ensures.done c.commit-answer.ensures.err
-          ∙ ap (λ p. start_of (standing moment p)) c.value.ensures.value ∙ c.requires.start;
+          ∙ ap (λ p. start_of (standing moment p)) c.value.ensures.value ∙ c.requires.begun;
       events = subst (λ k. ExtendsByOwn owner_of k (seen c.args.seat.now) (events n)) c.requires.session
           (commit_extends session c.args.change (seen c.args.seat.now) s n are c.commit-answer.result c.commit-answer.ensures.done c.commit-answer.ensures.err);
     }
@@ -34,7 +47,7 @@ returns g c =
     let answer = c.commit-answer.ensures in
     let end = c.end.ensures in
     let new = seen c.end.new.seat in
-    let are : events s ≡ seen c.args.seat.now = ap (λ p. events (standing moment p)) c.value.ensures.value ∙ c.requires.events in
+    let are : events s ≡ seen c.args.seat.now = ap (λ p. events (standing moment p)) c.value.ensures.value ∙ c.requires.found in
     let before : IsTold begun (seen c.args.seat.now) s = subst (λ p. IsTold begun (seen c.args.seat.now) (standing moment p)) (sym c.value.ensures.value) c.requires.told in record {
       seat = end.seat;
       same = end.same;

@@ -1,6 +1,9 @@
-use Rattle.std.proofs.Common.{◌∙◌, sym}
+use Rattle.std.proofs.Common.{◌∙◌, [], ap, append-nil, refl, sym}
 use Rattle.chunk_source.specs.Source.{AreNumbersIn}
 use Rattle.plan_changes.specs.Databases.{rows_of}
+use Rattle.array_store.specs.At.{standing}
+use Rattle.array_store.specs.Events.{events}
+use Rattle.array_store.specs.Starts.{start_of}
 use Rattle.array_store.proofs.InTurn.{adds_none, listed_ok, open_left, open_pin_now, over_ok}
 use Rattle.snapshot_manager.specs.Seats.{seen, session_of, start}
 use Rattle.snapshot_manager.proofs.shared.Shared.listed.Goals as goal
@@ -11,6 +14,18 @@ listed-answer-requires-clause-open g c =
     let p = c.requires.pin in
     open_pin_now g.D.Disk.moment (start g.D.Disk.moment c.args.self.now) (session_of c.args.seat.now) (seen c.args.seat.now) (seen c.begin-turn.new.seat)
     c.value.result.now c.begin-turn.result.value b.found c.value.ensures.value b.told c.args.pinned.now p.own p.open_pin
+
+pub listed-answer-requires-clause-leaf : goal.listed-answer-requires-clause-leaf
+listed-answer-requires-clause-leaf g c = c.requires.leaf
+
+pub end-requires : goal.end-requires
+end-requires g c =
+    let b = c.begin-turn.ensures in
+    let moment = g.D.Disk.moment in record {
+      seat = b.seat;
+      start = ap (λ p. start_of (standing moment p)) c.value.ensures.value ∙ b.start;
+      events = ([], ap (λ p. events (standing moment p)) c.value.ensures.value ∙ b.events ∙ sym (append-nil (seen c.begin-turn.new.seat)), refl);
+    }
 
 pub returns : goal.returns
 returns g c =

@@ -1,7 +1,10 @@
-use Rattle.std.proofs.Common.{◌∙◌, IsTrue, rules, subst, sym}
+use Rattle.std.proofs.Common.{◌∙◌, IsTrue, ap, rules, subst, sym}
 use Rattle.chunk_source.specs.Source.{IsChunkIn, is_among}
 use Rattle.plan_changes.specs.Databases.{rows_of}
+use Rattle.array_store.specs.At.{standing}
+use Rattle.array_store.specs.Starts.{start_of}
 use Rattle.array_store.proofs.InTurn.{began_in_turn, chunks_in_turn, open_pin_now, over_ok, read_adds, read_causes, read_extends, read_open}
+use Rattle.array_store.proofs.PinReads.{adds_some}
 use Rattle.snapshot_manager.specs.Seats.{seen, session_of, start}
 use Rattle.snapshot_manager.proofs.Damages.{damaged_was}
 use Rattle.snapshot_manager.proofs.shared.Shared.read_chunk.Goals as goal
@@ -22,13 +25,21 @@ read_chunk-answer-requires-clause-listed g c =
     c.value.result.now c.begin-turn.result.value b.found c.value.ensures.value b.told c.args.pinned.now p.own p.open_pin c.requires.seat.0.sealed c.args.leaf.now))
     c.requires.listed
 
-pub end-requires-clause-events : goal.end-requires-clause-events
-end-requires-clause-events g c =
+pub read_chunk-answer-requires-clause-leaf : goal.read_chunk-answer-requires-clause-leaf
+read_chunk-answer-requires-clause-leaf g c = c.requires.leaf
+
+pub end-requires : goal.end-requires
+end-requires g c =
     let b = c.begin-turn.ensures in
     let p = c.requires.pin in
-    read_extends g.D.Disk.moment (start g.D.Disk.moment c.args.self.now) (session_of c.args.seat.now) (seen c.args.seat.now) (seen c.begin-turn.new.seat)
-    c.value.result.now c.begin-turn.result.value b.found c.value.ensures.value b.told c.args.pinned.now p.own p.open_pin b.events
-    c.read_chunk-answer.new.self c.read_chunk-answer.ensures.adds (session_of c.begin-turn.new.seat) b.same.session
+    let moment = g.D.Disk.moment in record {
+      seat = b.seat;
+      start = (adds_some moment c.args.pinned.now.session (standing moment c.value.result.now) (standing moment c.read_chunk-answer.new.self) c.read_chunk-answer.ensures.adds).adds.start
+          ∙ ap (λ q. start_of (standing moment q)) c.value.ensures.value ∙ b.start;
+      events = read_extends moment (start moment c.args.self.now) (session_of c.args.seat.now) (seen c.args.seat.now) (seen c.begin-turn.new.seat)
+          c.value.result.now c.begin-turn.result.value b.found c.value.ensures.value b.told c.args.pinned.now p.own p.open_pin b.events
+          c.read_chunk-answer.new.self c.read_chunk-answer.ensures.adds (session_of c.begin-turn.new.seat) b.same.session;
+    }
 
 pub returns : goal.returns
 returns g c =

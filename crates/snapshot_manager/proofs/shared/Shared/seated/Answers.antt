@@ -7,17 +7,18 @@ use Rattle.snapshot_manager.proofs.shared.Shared.seated.Goals as goal
 pub loop-preserved : goal.loop-preserved
 loop-preserved g c =
     let i = c.loop.invariant in
-    let next = c.seat_next.ensures in
-    let added = next.made in
-    let at = first_of_rest c.args.turn_seats c.loop.turn_seats c.loop.counter added.0 i.seats added.1 in record {
-      seats = less_one c.args.turn_seats c.loop.turn_seats c.seat_next.new.turn_seats c.loop.counter i.seats next.rest;
-      count = longer_by_one c.loop.room.items (record { turn_seat = added.0; entries = 0; last = 0; reads = 0 }) c.seat_next.new.room.items c.loop.counter added.2 i.count;
-      room = subst (λ n. length c.args.turn_seats ≤ n) (sym next.capacity) i.room;
-      made = seated_more c.args.self.now c.args.turn_seats c.loop.room.items c.seat_next.new.room.items c.loop.counter added.0 c.requires.seats at i.count i.made added.2;
+    let first = c.take_first-turn_seat.ensures in
+    let pushed = c.push_reserved.ensures in
+    let seat = c.take_first-turn_seat.result in
+    let at = first_of_rest c.args.turn_seats c.loop.turn_seats c.loop.counter seat i.seats first.item in record {
+      seats = less_one c.args.turn_seats c.loop.turn_seats c.take_first-turn_seat.new.seats c.loop.counter i.seats first.rest;
+      count = longer_by_one c.loop.room.items (record { turn_seat = seat; entries = 0; last = 0; reads = 0 }) c.push_reserved.new.self.items c.loop.counter pushed.items i.count;
+      room = subst (λ n. length c.args.turn_seats ≤ n) (sym pushed.capacity) i.room;
+      made = seated_more c.args.self.now c.args.turn_seats c.loop.room.items c.push_reserved.new.self.items c.loop.counter seat c.requires.seats at i.count i.made pushed.items;
     }
 
-pub seat_next-requires-clause-some : goal.seat_next-requires-clause-some
-seat_next-requires-clause-some g c =
+pub take_first-turn_seat-requires : goal.take_first-turn_seat-requires
+take_first-turn_seat-requires g c =
     some_left c.args.turn_seats c.loop.turn_seats c.loop.counter c.loop.invariant.seats (subst (λ n. c.loop.counter < n) c.len-count.ensures c.loop-test.true)
 
 pub returns-clause-seats : goal.returns-clause-seats
