@@ -1,5 +1,5 @@
 -- What comes of a typed statement, and of the tree that it is of.
-use Rattle.std.proofs.Common.{◌≡◌, ℕ, true, List, ◌++◌, Option, Some, Result, Ok, Err, IfErr, IfOk, OnErr, refl, sym, ap, subst, ◌∙◌}
+use Rattle.std.proofs.Common.{◌≡◌, ℕ, true, List, Option, Some, Result, Ok, Err, IfErr, IfOk, refl, sym, ap, subst, ◌∙◌}
 use Rattle.cell_values.specs.declared.name.Span.{Span}
 use Rattle.afl_trees.specs.Term.{Term, create, call, Terms}
 use Rattle.logical_plan.specs.Meaning.{Database as Rows}
@@ -25,7 +25,7 @@ use Rattle.afl_types.specs.Statements.{insert_of, queried, said, statement_of, s
 use Rattle.afl_types.specs.declared.types.statements.checking.Typed.{Typed}
 use Rattle.afl_types.specs.declared.types.statements.checking.Typed.TheVariants.{Query as AQuery, Change as AChange, Versions, Show, ListArrays}
 use Rattle.chunk_exec.specs.Computed.{CanCompute}
-use Rattle.chunk_source.specs.Source.{SourceState, AsksFront}
+use Rattle.chunk_source.specs.Source.{SourceState}
 use Rattle.chunk_source.specs.declared.reading.fault.ExecFault.{ExecFault}
 use Rattle.chunk_source.specs.declared.reading.fault.ExecFault.TheVariants.{Source, Damaged, Memory}
 use Rattle.statement_replies.specs.Kinds.{IsRowsOver}
@@ -41,7 +41,7 @@ use Rattle.statement_replies.proofs.Standing.{stand}
 use Rattle.statement_replies.specs.declared.answers.outcome.Outcome.{Outcome}
 use Rattle.statement_replies.specs.declared.answers.outcome.Outcome.TheVariants.{Replied}
 use Rattle.statement_replies.specs.Inner.Made.{CanAnswer}
-use Rattle.statement_replies.specs.Outcomes.{ForRowsPut, HasOutcomeKind, IsOutcomeOf, IsToldBy, MayFail, all_asked, asked_for}
+use Rattle.statement_replies.specs.Outcomes.{HasOutcomeKind, IsOutcomeOf, IsToldBy, MayFail}
 
 -- ---- what is typed can be answered
 
@@ -86,36 +86,17 @@ module _ (names : Names) (source : SourceState) (holds : HoldsVersions names sou
   can_answer text tree (Show name) fit e = of_answer (NamesWhatStands names) (check_of tree text names) (Show name) (stand names text tree) e
   can_answer text tree ListArrays fit e = tt
 
--- ---- what is known of one thing that is checked is known of an equal one
+-- ---- what is typed breaks no rule
 
 abbrev pub good : Typed → Checked Typed
 good typed = Ok typed
 
--- one that breaks no rule may fail for each reason
+-- it may fail for each reason
 pub allowed_over : (checked : Checked Typed) (typed : Typed) → checked ≡ good typed → (answer : Result Outcome ExecFault) → IfErr answer (λ fault. MayFail fault checked)
 allowed_over checked typed is (Ok outcome) = tt
 allowed_over checked typed is (Err Source) = (typed, is)
 allowed_over checked typed is (Err (Damaged page)) = (typed, is)
 allowed_over checked typed is (Err Memory) = tt
-
-module _ (names : Names) (a b : Checked Typed) (same : a ≡ b) where
-  pub kind_over : (style : Style) (answer : Result Outcome ExecFault) → IfOk answer (HasOutcomeKind style names b) → IfOk answer (HasOutcomeKind style names a)
-  kind_over style answer kind = subst (λ (c : Checked Typed). IfOk answer (HasOutcomeKind style names c)) (sym same) kind
-
-  pub told_over : (style : Style) (source : SourceState) (answer : Result Outcome ExecFault)
-      → IfOk answer (λ outcome. (db : Database) → IsToldBy names source db → IsOutcomeOf db (reply_to_checked style db b) outcome)
-      → IfOk answer (λ outcome. (db : Database) → IsToldBy names source db → IsOutcomeOf db (reply_to_checked style db a) outcome)
-  told_over style source answer told =
-      subst (λ (c : Checked Typed). IfOk answer (λ outcome. (db : Database) → IsToldBy names source db → IsOutcomeOf db (reply_to_checked style db c) outcome)) (sym same) told
-
-  pub asked_over : (old new : SourceState) (answer : Result Outcome ExecFault) → IfOk answer (λ outcome. ForRowsPut names old b (λ rows. new.asked ≡ old.asked ++ asked_for rows old names b outcome))
-      → IfOk answer (λ outcome. ForRowsPut names old a (λ rows. new.asked ≡ old.asked ++ asked_for rows old names a outcome))
-  asked_over old new answer asked =
-      subst (λ (c : Checked Typed). IfOk answer (λ outcome. ForRowsPut names old c (λ rows. new.asked ≡ old.asked ++ asked_for rows old names c outcome))) (sym same) asked
-
-  pub front_over : (old new : SourceState) (answer : Result Outcome ExecFault) → OnErr answer (ForRowsPut names old b (λ rows. AsksFront (all_asked rows old names b) old new))
-      → OnErr answer (ForRowsPut names old a (λ rows. AsksFront (all_asked rows old names a) old new))
-  front_over old new answer front = subst (λ (c : Checked Typed). OnErr answer (ForRowsPut names old c (λ rows. AsksFront (all_asked rows old names c) old new))) (sym same) front
 
 -- ---- the reply over each database of these names
 

@@ -1,5 +1,5 @@
 -- What is asked for where a statement puts rows in.
-use Rattle.std.proofs.Common.{◌≡◌, ℕ, List, [], ◌++◌, Option, Some, Result, Ok, Err, refl, sym, ap, subst, ◌∙◌, append_assoc}
+use Rattle.std.proofs.Common.{◌≡◌, ℕ, List, [], ◌++◌, Option, Result, Ok, Err, refl, sym, ap, subst, ◌∙◌, append_assoc}
 use Rattle.std.proofs.lemmas.List.{append-nil}
 use Rattle.cell_values.specs.declared.datum.Broken.{Broken}
 use Rattle.cell_values.specs.declared.datum.Row.{Row}
@@ -21,7 +21,7 @@ use Rattle.changed_chunks.specs.Changing.{AsksOnly, IsToldOf, asked_for as asked
 use Rattle.statement_replies.specs.declared.replies.replies.Reply.{Reply}
 use Rattle.statement_replies.specs.Traces.{newest_leaf}
 use Rattle.statement_replies.specs.declared.answers.outcome.Outcome.TheVariants.{Replied}
-use Rattle.statement_replies.specs.Inner.Made.{IsPutUnder, asked_made}
+use Rattle.statement_replies.specs.Inner.Made.{IsPutUnder, asked_made, with_chunks}
 use Rattle.statement_replies.specs.Outcomes.{ForRowsPut, all_asked, all_of_change, asked_for}
 use Rattle.statement_replies.proofs.Targets.{told_of}
 
@@ -46,10 +46,6 @@ module _ (names : Names) (source : SourceState) (checked : Checked Typed) where
   nothing_asked reply none = for_each _ (λ rows. sym (append-nil source.asked) ∙ ap (λ (all : List Asked). source.asked ++ all) (sym (none rows)))
 
 -- ---- what a change asks for
-
-abbrev pub with_chunks : Result Changed Broken → Result (Option Changed) Broken
-with_chunks (Ok changed) = Ok (Some changed)
-with_chunks (Err broken) = Err broken
 
 module _ (names : Names) (change : Change) (name : List ℕ) (schema : Schema) (target : Leaf) (is : target ≡ newest_leaf names name schema) (put : IsPutUnder name schema change)
     (old new : SourceState) where

@@ -2,8 +2,10 @@ pub mod Answering
 mod AnswersWorked
 pub mod Asking
 pub mod Causes
+pub mod Coming
 pub mod Lines
 pub mod Listed
+pub mod Making
 pub mod Offers
 pub mod PlanReplies
 pub mod QueryReplies

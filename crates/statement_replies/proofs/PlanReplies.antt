@@ -1,13 +1,13 @@
 -- The reply to a plan, of which the first fault or the rows are found.
-use Rattle.std.proofs.Common.{◌≡◌, inl, inr, ℕ, List, Option, Some, None, Result, Ok, Err, refl, sym, ap, ◌∙◌, subst}
+use Rattle.std.proofs.Common.{◌≡◌, inl, inr, ℕ, List, Option, Some, None, Result, Ok, Err, IfOk, refl, sym, ap, ◌∙◌, subst}
 use Rattle.cell_values.specs.declared.datum.Broken.{Broken}
 use Rattle.cell_values.specs.declared.datum.Row.{Row}
 use Rattle.cell_values.specs.declared.schema.Schema.{Schema}
 use Rattle.logical_plan.specs.Faults.{fault_of, first_fault}
 use Rattle.logical_plan.specs.Meaning.{Database, Meant, meaning}
-use Rattle.logical_plan.specs.PlanSchema.{schema_of}
 use Rattle.logical_plan.specs.Query.{Query}
 use Rattle.logical_plan.proofs.SchemaLaws.{meaning_schema}
+use Rattle.chunk_exec.specs.declared.rows.rows.answers.rows.PlanRows.{PlanRows}
 use Rattle.chunk_exec.specs.declared.rows.rows.answers.rows.PlanRows.TheVariants.{Fault, Rows}
 use Rattle.chunk_exec.specs.Found.{IsFound}
 use Rattle.chunk_source.specs.Source.{SourceState}
@@ -16,13 +16,17 @@ use Rattle.changed_chunks.proofs.Tracing.{lines_over_are, plan_lines_are}
 use Rattle.check_rules.specs.Checked.{Checked}
 use Rattle.afl_types.specs.Queries.{query_of}
 use Rattle.statement_replies.specs.Kinds.{HasKind, IsRowsOver, IsRowsReply, IsTextOrRefusal, RepliesHaveKinds}
-use Rattle.statement_replies.specs.Reply.{array_reply, cell_reply, checked_reply, fault_or_text, meant_reply, text_reply, traced}
+use Rattle.statement_replies.specs.Reply.{array_reply, cell_reply, checked_reply, fault_or_text, meant_reply, plan_reply, text_reply, traced}
 use Rattle.statement_replies.specs.declared.replies.replies.Reply.{Reply}
 use Rattle.statement_replies.specs.declared.replies.style.Style.{Style}
 
+abbrev broken_or : Broken → Option Broken → Broken
+broken_or other (Some broken) = broken
+broken_or other None = other
+
 faulty : (style : Style) (lines : List ℕ) (schema : Schema) (rows : Result (List Row) Broken) (broken : Broken) → fault_of rows ≡ Some broken → array_reply style lines schema rows ≡ cell_reply broken
 faulty style lines schema (Ok rows) broken e = ap (λ (o : Option Broken). fault_or_text style lines o schema rows) e
-faulty style lines schema (Err other) broken e = let same : other ≡ broken = cc in ap cell_reply same
+faulty style lines schema (Err other) broken e = ap (λ (o : Option Broken). cell_reply (broken_or other o)) e
 
 pub fault_reply : (style : Style) (lines : List ℕ) (meant : Meant) (broken : Broken) (reply : Reply) → IsFound meant (Fault broken) → reply ≡ cell_reply broken → reply ≡ meant_reply style lines meant
 fault_reply style lines meant broken reply found e = e ∙ sym (faulty style lines meant.schema meant.rows broken found)
@@ -33,12 +37,15 @@ rows_reply style lines meant schema rows reply found e =
     e ∙ sym (ap (meant_reply style lines) found.1 ∙ ap (λ (o : Option Broken). fault_or_text style lines o schema rows) (sym (ap (λ (m : Meant). fault_of m.rows) found.1) ∙ found.0))
 
 -- with equal lines
-pub lines_reply : (style : Style) (text lines : List ℕ) (meant : Meant) (reply : Reply) → text ≡ lines → reply ≡ meant_reply style text meant → reply ≡ meant_reply style lines meant
+lines_reply : (style : Style) (text lines : List ℕ) (meant : Meant) (reply : Reply) → text ≡ lines → reply ≡ meant_reply style text meant → reply ≡ meant_reply style lines meant
 lines_reply style text lines meant reply same e = e ∙ ap (λ (z : List ℕ). meant_reply style z meant) same
 
-pub rows_over : (source : SourceState) (style : Style) (query : Query) (text : List ℕ) (reply : Reply) → text ≡ traced style (lines_over source query) → IsTextOrRefusal style text (schema_of query) reply
-    → IsRowsOver source style query reply
-rows_over source style query text reply is = subst (λ (z : List ℕ). IsTextOrRefusal style z (schema_of query) reply) is
+pub lines_told : {E : Type 0} (source : SourceState) (style : Style) (query : Query) (text : List ℕ) (found : PlanRows) (answer : Result Reply E)
+    → ((db : Database) → source.tells db → text ≡ traced style (plan_lines db query)) → ((meant : Meant) → IsFound meant found → IfOk answer (λ reply. reply ≡ meant_reply style text meant))
+    → IfOk answer (λ reply. (db : Database) → source.tells db → IsFound (meaning db query) found → reply ≡ plan_reply style db query)
+lines_told source style query text found (Ok reply) same told = λ db tells is.
+    lines_reply style text (traced style (plan_lines db query)) (meaning db query) reply (same db tells) (told (meaning db query) is)
+lines_told source style query text found (Err fault) same told = tt
 
 -- what a source lists has some numbers
 pub rows_kind : (source : SourceState) (style : Style) (query : Query) (reply : Reply) → IsRowsOver source style query reply → IsRowsReply style query reply

@@ -1,5 +1,5 @@
 -- What comes of a statement over the arrays of a source: a reply, or a change that may be committed.
-use Rattle.std.specs.Prelude.{◌≡◌, ℕ, List, [], Option, None, Some, Ok, Err, IfSome}
+use Rattle.std.specs.Prelude.{◌≡◌, List, [], Option, None, Some, Ok, Err, IfSome}
 use Rattle.cell_values.specs.declared.datum.Row.{Row}
 use Rattle.array_geom.specs.declared.chunk.Changed.{Changed}
 use Rattle.logical_plan.specs.declared.names.Names.{Names}

@@ -13,6 +13,7 @@ use Rattle.plan_changes.specs.Typed.{IsTypedFor}
 use Rattle.afl_types.specs.declared.types.statements.checking.Typed.{Typed}
 use Rattle.afl_types.specs.declared.types.statements.checking.Typed.TheVariants.{Query as AQuery, Change as AChange, Versions, Show, ListArrays}
 use Rattle.chunk_exec.specs.Computed.{CanCompute}
+use Rattle.chunk_source.specs.declared.reading.fault.ExecFault.{ExecFault}
 use Rattle.chunk_source.specs.declared.sources.asked.Asked.{Asked}
 use Rattle.chunk_source.specs.Source.{SourceState}
 use Rattle.commit_pages.specs.Changes.{AreValid, ComesWith}
@@ -44,6 +45,15 @@ abbrev pub HasChunks : Change → Result (Option Changed) Broken → Type 0
 HasChunks change (Ok changed) = ComesWith change changed × IfSome changed AreValid
 HasChunks change (Err broken) = HasPlan change
 
+-- those of a change that writes some are those that come with it
+abbrev pub with_chunks : Result Changed Broken → Result (Option Changed) Broken
+with_chunks (Ok changed) = Ok (Some changed)
+with_chunks (Err broken) = Err broken
+
+abbrev pub chunks_or_fault : Result (Result Changed Broken) ExecFault → Result (Result (Option Changed) Broken) ExecFault
+chunks_or_fault (Ok made) = Ok (with_chunks made)
+chunks_or_fault (Err fault) = Err fault
+
 -- those of the change, or its fault, in a database
 abbrev pub IsMadeIn : Database → Change → Result (Option Changed) Broken → Type 0
 IsMadeIn db change (Ok changed) = IsMadeOf db change changed
@@ -58,6 +68,11 @@ asked_made rows source names change (Err broken) = asked_of_plan source change
 abbrev pub outcome_with : Change → Result Offer Reply → Outcome
 outcome_with change (Ok offer) = Changes change offer.changed offer.reply
 outcome_with change (Err reply) = Replied reply
+
+-- or why there is none
+abbrev pub offered : Change → Result (Result Offer Reply) ExecFault → Result Outcome ExecFault
+offered change (Ok offer) = Ok (outcome_with change offer)
+offered change (Err fault) = Err fault
 
 -- a change that has its chunks is offered, one that has a fault is refused
 abbrev pub IsAlike : Result (Option Changed) Broken → Result Offer Reply → Type 0

@@ -1,21 +1,18 @@
 //! Changes: the chunks that they write, and what they are answered.
-ghost use Rattle.std.specs.Prelude.{◌≡◌, ◌≤◌, ◌++◌, None, Ok as Good, IfOk, OnErr};
+ghost use Rattle.std.specs.Prelude.{◌≡◌, Ok as Good, IfOk};
 ghost use Rattle.chunk_source.specs.Faults.{Answers};
-ghost use Rattle.chunk_source.specs.Source.{AsksFront, Keeps};
-ghost use Rattle.plan_changes.specs.Databases.{Database, names_of};
-ghost use Rattle.plan_changes.specs.Stored.{AreStored, HasItsNames};
+ghost use Rattle.chunk_source.specs.Source.{Keeps};
+ghost use Rattle.plan_changes.specs.Databases.{Database};
 ghost use Rattle.plan_changes.specs.Typed.{IsTypedFor};
-ghost use Rattle.changed_chunks.specs.Targets.{IsTargetAsking};
 ghost use Rattle.afl_types.specs.declared.types.statements.checking.Typed.TheVariants.{Change as AChange};
-ghost use Rattle.statement_replies.specs.Reading.{HoldsVersions};
 ghost use Rattle.statement_replies.specs.Reply.{cell_reply, traced};
 ghost use Rattle.statement_replies.specs.StatementKinds.{IsChangeReply};
-ghost use Rattle.statement_replies.specs.Statements.{change_reply, reply_to_typed};
+ghost use Rattle.statement_replies.specs.Statements.{change_reply};
 ghost use Rattle.statement_replies.specs.Traces.{CanTrace, IsTracedIn, change_lines, newest_leaf};
-ghost use Rattle.statement_replies.specs.Inner.Made.{HasChunks, IsAlike, IsMadeIn, IsPutUnder, asked_made, outcome_with};
-ghost use Rattle.statement_replies.specs.Outcomes.{ForRowsPut, HasOutcomeKind, IsOutcomeOf, IsToldBy, all_of_change, asked_by_change};
+ghost use Rattle.statement_replies.specs.Inner.Come.{AreMade, CanRead, ComesOf, IsAnswered};
+ghost use Rattle.statement_replies.specs.Inner.Made.{IsPutUnder, chunks_or_fault, offered};
 
-use crate::answers::outcome::{Offer, Outcome, outcome_with};
+use crate::answers::outcome::{Offer, Outcome, offered};
 use crate::replies::{Reply, Style, accepted_reply, change_lines, or_fault, refuse};
 use afl_outside::Gate;
 use array_geom::Changed;
@@ -23,7 +20,7 @@ use cell_values::{Broken, Memory, Name, Schema};
 use changed_chunks::{Asking, changed, let_go_changed};
 use chunk_source::{ChunkSource, ExecFault};
 use logical_plan::{Leaf, Names};
-use plan_changes::{Change, has_its_names, let_go_change, newest_of};
+use plan_changes::{Change, has_its_names, newest_of};
 use result_print::Refusal;
 use std::alloc::Global;
 use std::thread::Threads;
@@ -37,6 +34,19 @@ fn newest_leaf(names: &Names, name: &Name, schema: &Schema) -> Result<Leaf, Memo
         version: newest_of(&names.arrays, name),
         schema: schema.copy()?,
     })
+}
+
+/// Chunks of a change that writes some, as those that come with it.
+fn with_chunks(
+    made: Result<Result<Changed, Broken>, ExecFault>,
+) -> Result<Result<Option<Changed>, Broken>, ExecFault>
+    ensures { result ≡ chunks_or_fault made }
+{
+    match made {
+        Ok(Ok(changed)) => Ok(Ok(Some(changed))),
+        Ok(Err(broken)) => Ok(Err(broken)),
+        Err(fault) => Err(fault),
+    }
 }
 
 /// The chunks of a change that puts a version under this name, with this schema, or its fault. How many chunks of an insert's target are
@@ -54,32 +64,17 @@ fn chunks_put<S: ChunkSource, R: Threads + Sync, G: Gate>(
     session: u32,
     gate: &G,
 ) -> Result<Result<Option<Changed>, Broken>, ExecFault>
-    requires undamaged { (S.state source.old).damaged ≡ None }
-    requires stored { AreStored names.now }
+    requires ready { CanRead names.now (S.state source.old) workers }
     requires typed { IsTypedFor names.now change.now }
     requires put { IsPutUnder name.now schema.now change.now }
-    requires holds { HoldsVersions names.now (S.state source.old) }
-    requires workers { (1 ≤ workers) × (workers ≤ 64) }
-    ensures kind { IfOk result (HasChunks change.now) }
-    ensures told { IfOk result (λ made. (db : Database) → IsToldBy names.now (S.state source.old) db → IsMadeIn db change.now made) }
-    ensures counted { IfOk result (λ made. IfOk made (λ changed. (db : Database) → IsToldBy names.now (S.state source.old) db
-        → IsTargetAsking db change.now asking.new)) }
-    ensures asked { let old = S.state source.old in
-        IfOk result (λ made. ForRowsPut names.now old (Good (AChange change.now)) (λ rows.
-        (S.state source.new).asked ≡ old.asked ++ asked_made rows old names.now change.now made)) }
-    ensures front { let old = S.state source.old in
-        OnErr result (ForRowsPut names.now old (Good (AChange change.now)) (λ rows.
-        AsksFront (all_of_change rows old names.now change.now) old (S.state source.new))) }
-    ensures kept { Keeps (S.state source.old) (S.state source.new) }
-    ensures cause { Answers (S.state source.old) (S.state source.new) result }
+    ensures made { AreMade names.now (S.state source.old) (S.state source.new) change.now asking.new result }
     ensures start { S.start source.new ≡ S.start source.old }
 {
-    let target = newest_leaf(names, name, schema)?;
-    match changed(
-        rt, alloc, change, &target, source, asking, workers, session, gate,
-    )? {
-        Ok(changed) => Ok(Ok(Some(changed))),
-        Err(broken) => Ok(Err(broken)),
+    match newest_leaf(names, name, schema) {
+        Ok(target) => with_chunks(changed(
+            rt, alloc, change, &target, source, asking, workers, session, gate,
+        )),
+        Err(Memory) => Err(ExecFault::Memory),
     }
 }
 
@@ -96,23 +91,9 @@ fn chunks_of<S: ChunkSource, R: Threads + Sync, G: Gate>(
     session: u32,
     gate: &G,
 ) -> Result<Result<Option<Changed>, Broken>, ExecFault>
-    requires undamaged { (S.state source.old).damaged ≡ None }
-    requires stored { AreStored names.now }
+    requires ready { CanRead names.now (S.state source.old) workers }
     requires typed { IsTypedFor names.now change.now }
-    requires holds { HoldsVersions names.now (S.state source.old) }
-    requires workers { (1 ≤ workers) × (workers ≤ 64) }
-    ensures kind { IfOk result (HasChunks change.now) }
-    ensures told { IfOk result (λ made. (db : Database) → IsToldBy names.now (S.state source.old) db → IsMadeIn db change.now made) }
-    ensures counted { IfOk result (λ made. IfOk made (λ changed. (db : Database) → IsToldBy names.now (S.state source.old) db
-        → IsTargetAsking db change.now asking.new)) }
-    ensures asked { let old = S.state source.old in
-        IfOk result (λ made. ForRowsPut names.now old (Good (AChange change.now)) (λ rows.
-        (S.state source.new).asked ≡ old.asked ++ asked_made rows old names.now change.now made)) }
-    ensures front { let old = S.state source.old in
-        OnErr result (ForRowsPut names.now old (Good (AChange change.now)) (λ rows.
-        AsksFront (all_of_change rows old names.now change.now) old (S.state source.new))) }
-    ensures kept { Keeps (S.state source.old) (S.state source.new) }
-    ensures cause { Answers (S.state source.old) (S.state source.new) result }
+    ensures made { AreMade names.now (S.state source.old) (S.state source.new) change.now asking.new result }
     ensures start { S.start source.new ≡ S.start source.old }
 {
     match change {
@@ -169,15 +150,7 @@ fn answered<S: ChunkSource>(
     made: Result<Option<Changed>, Broken>,
 ) -> Result<Result<Offer, Reply>, ExecFault>
     requires { CanTrace (S.state source.old) change.now }
-    ensures kind { HasItsNames change.now → IsTypedFor names.now change.now → HasChunks change.now made
-        → IfOk result (λ offer. HasOutcomeKind style names.now (Good (AChange change.now)) (outcome_with change.now offer)) }
-    ensures told { (db : Database) → names_of db ≡ names.now → IfOk made (λ changed. IsTracedIn names.now (S.state source.old) change.now target db)
-        → IsMadeIn db change.now made
-        → IfOk result (λ offer. IsOutcomeOf db (reply_to_typed style db (AChange change.now)) (outcome_with change.now offer)) }
-    ensures alike { IfOk result (IsAlike made) }
-    ensures asked { (S.state source.new).asked ≡ (S.state source.old).asked }
-    ensures kept { Keeps (S.state source.old) (S.state source.new) }
-    ensures cause { Answers (S.state source.old) (S.state source.new) result }
+    ensures answer { IsAnswered style names.now (S.state source.old) (S.state source.new) change.now target made result }
     ensures start { S.start source.new ≡ S.start source.old }
 {
     match made {
@@ -207,22 +180,9 @@ fn offer_of<S: ChunkSource, R: Threads + Sync, G: Gate>(
     session: u32,
     gate: &G,
 ) -> Result<Result<Offer, Reply>, ExecFault>
-    requires undamaged { (S.state source.old).damaged ≡ None }
-    requires stored { AreStored names.now }
+    requires ready { CanRead names.now (S.state source.old) workers }
     requires typed { IsTypedFor names.now change.now }
-    requires holds { HoldsVersions names.now (S.state source.old) }
-    requires workers { (1 ≤ workers) × (workers ≤ 64) }
-    ensures kind { IfOk result (λ offer. HasOutcomeKind style names.now (Good (AChange change.now)) (outcome_with change.now offer)) }
-    ensures told { IfOk result (λ offer. (db : Database) → IsToldBy names.now (S.state source.old) db
-        → IsOutcomeOf db (reply_to_typed style db (AChange change.now)) (outcome_with change.now offer)) }
-    ensures asked { let old = S.state source.old in
-        IfOk result (λ offer. ForRowsPut names.now old (Good (AChange change.now)) (λ rows.
-        (S.state source.new).asked ≡ old.asked ++ asked_by_change rows old names.now change.now (outcome_with change.now offer))) }
-    ensures front { let old = S.state source.old in
-        OnErr result (ForRowsPut names.now old (Good (AChange change.now)) (λ rows.
-        AsksFront (all_of_change rows old names.now change.now) old (S.state source.new))) }
-    ensures kept { Keeps (S.state source.old) (S.state source.new) }
-    ensures cause { Answers (S.state source.old) (S.state source.new) result }
+    ensures come { ComesOf style names.now (S.state source.old) (S.state source.new) (Good (AChange change.now)) (offered change.now result) }
     ensures start { S.start source.new ≡ S.start source.old }
 {
     has_its_names(change);
@@ -258,31 +218,13 @@ pub(crate) fn outcome_of_change<S: ChunkSource, R: Threads + Sync, G: Gate>(
     session: u32,
     gate: &G,
 ) -> Result<Outcome, ExecFault>
-    requires undamaged { (S.state source.old).damaged ≡ None }
-    requires stored { AreStored names.now }
+    requires ready { CanRead names.now (S.state source.old) workers }
     requires typed { IsTypedFor names.now change }
-    requires holds { HoldsVersions names.now (S.state source.old) }
-    requires workers { (1 ≤ workers) × (workers ≤ 64) }
-    ensures kind { IfOk result (HasOutcomeKind style names.now (Good (AChange change))) }
-    ensures told { IfOk result (λ outcome. (db : Database) → IsToldBy names.now (S.state source.old) db
-        → IsOutcomeOf db (reply_to_typed style db (AChange change)) outcome) }
-    ensures asked { let old = S.state source.old in
-        IfOk result (λ outcome. ForRowsPut names.now old (Good (AChange change)) (λ rows.
-        (S.state source.new).asked ≡ old.asked ++ asked_by_change rows old names.now change outcome)) }
-    ensures front { let old = S.state source.old in
-        OnErr result (ForRowsPut names.now old (Good (AChange change)) (λ rows.
-        AsksFront (all_of_change rows old names.now change) old (S.state source.new))) }
-    ensures kept { Keeps (S.state source.old) (S.state source.new) }
-    ensures cause { Answers (S.state source.old) (S.state source.new) result }
+    ensures come { ComesOf style names.now (S.state source.old) (S.state source.new) (Good (AChange change)) result }
     ensures start { S.start source.new ≡ S.start source.old }
 {
-    match offer_of(
+    let offer = offer_of(
         rt, alloc, &change, names, source, style, workers, session, gate,
-    ) {
-        Ok(offer) => Ok(outcome_with(change, offer)),
-        Err(fault) => {
-            let_go_change(change);
-            Err(fault)
-        }
-    }
+    );
+    offered(change, offer)
 }

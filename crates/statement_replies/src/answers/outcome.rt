@@ -1,6 +1,6 @@
 //! What comes of a statement.
 ghost use Rattle.std.specs.Prelude.{◌≡◌};
-ghost use Rattle.statement_replies.specs.Inner.Made.{outcome_with};
+ghost use Rattle.statement_replies.specs.Inner.Made.{offered};
 ghost use Rattle.statement_replies.specs.Inner.RepliedOutcome.{replied};
 
 use crate::replies::Reply;
@@ -28,19 +28,26 @@ pub(crate) struct Offer {
     pub(crate) reply: Reply,
 }
 
-/// The outcome of a change that is offered or refused.
-pub(crate) fn outcome_with(change: Change, offer: Result<Offer, Reply>) -> Outcome
-    ensures { result ≡ outcome_with change offer }
+/// The outcome of a change that is offered or refused, or why there is none.
+pub(crate) fn offered(
+    change: Change,
+    offer: Result<Result<Offer, Reply>, ExecFault>,
+) -> Result<Outcome, ExecFault>
+    ensures { result ≡ offered change offer }
 {
     match offer {
-        Ok(Offer { changed, reply }) => Outcome::Changes {
+        Ok(Ok(Offer { changed, reply })) => Ok(Outcome::Changes {
             change,
             changed,
             reply,
-        },
-        Err(reply) => {
+        }),
+        Ok(Err(reply)) => {
             let_go_change(change);
-            Outcome::Replied(reply)
+            Ok(Outcome::Replied(reply))
+        }
+        Err(fault) => {
+            let_go_change(change);
+            Err(fault)
         }
     }
 }

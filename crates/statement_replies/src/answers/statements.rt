@@ -9,7 +9,8 @@ ghost use Rattle.plan_changes.specs.Stored.{AreStored};
 ghost use Rattle.afl_types.specs.Checking.{check_of};
 ghost use Rattle.afl_types.specs.declared.types.statements.checking.Typed.TheVariants.{Query as AQuery};
 ghost use Rattle.statement_replies.specs.Reading.{HoldsVersions};
-ghost use Rattle.statement_replies.specs.Statements.{reply_to, reply_to_typed};
+ghost use Rattle.statement_replies.specs.Statements.{reply_to};
+ghost use Rattle.statement_replies.specs.Inner.Come.{CanRead, ComesOf};
 ghost use Rattle.statement_replies.specs.Inner.Made.{CanAnswer};
 ghost use Rattle.statement_replies.specs.Outcomes.{ForRowsPut, HasOutcomeKind, IsOutcomeOf, IsToldBy, MayFail, all_asked, asked_for};
 
@@ -29,7 +30,7 @@ use std::thread::Threads;
 fn outcome_of_query<S: ChunkSource, R: Threads + Sync, G: Gate>(
     rt: &R,
     alloc: Global,
-    plan: &Plan,
+    plan: Plan,
     names: &Names,
     source: &mut S,
     style: Style,
@@ -37,23 +38,14 @@ fn outcome_of_query<S: ChunkSource, R: Threads + Sync, G: Gate>(
     session: u32,
     gate: &G,
 ) -> Result<Outcome, ExecFault>
-    requires undamaged { (S.state source.old).damaged ≡ None }
-    requires can { CanCompute (S.state source.old) plan.now }
-    requires workers { (1 ≤ workers) × (workers ≤ 64) }
-    ensures kind { IfOk result (HasOutcomeKind style names.now (Good (AQuery plan.now))) }
-    ensures told { IfOk result (λ outcome. (db : Database) → IsToldBy names.now (S.state source.old) db
-        → IsOutcomeOf db (reply_to_typed style db (AQuery plan.now)) outcome) }
-    ensures asked { let old = S.state source.old in
-        IfOk result (λ outcome. ForRowsPut names.now old (Good (AQuery plan.now)) (λ rows.
-        (S.state source.new).asked ≡ old.asked ++ asked_for rows old names.now (Good (AQuery plan.now)) outcome)) }
-    ensures front { let old = S.state source.old in
-        OnErr result (ForRowsPut names.now old (Good (AQuery plan.now)) (λ rows.
-        AsksFront (all_asked rows old names.now (Good (AQuery plan.now))) old (S.state source.new))) }
-    ensures kept { Keeps (S.state source.old) (S.state source.new) }
-    ensures cause { Answers (S.state source.old) (S.state source.new) result }
+    requires ready { CanRead names.now (S.state source.old) workers }
+    requires can { CanCompute (S.state source.old) plan }
+    ensures come { ComesOf style names.now (S.state source.old) (S.state source.new) (Good (AQuery plan)) result }
     ensures start { S.start source.new ≡ S.start source.old }
 {
-    match answer_query(rt, alloc, plan, source, style, workers, session, gate) {
+    let answer = answer_query(rt, alloc, &plan, source, style, workers, session, gate);
+    let_go(plan);
+    match answer {
         Ok(reply) => Ok(Outcome::Replied(reply)),
         Err(fault) => Err(fault),
     }
@@ -71,32 +63,15 @@ fn outcome_of_typed<S: ChunkSource, R: Threads + Sync, G: Gate>(
     session: u32,
     gate: &G,
 ) -> Result<Outcome, ExecFault>
-    requires undamaged { (S.state source.old).damaged ≡ None }
-    requires stored { AreStored names.now }
+    requires ready { CanRead names.now (S.state source.old) workers }
     requires can { CanAnswer names.now (S.state source.old) typed }
-    requires holds { HoldsVersions names.now (S.state source.old) }
-    requires workers { (1 ≤ workers) × (workers ≤ 64) }
-    ensures kind { IfOk result (HasOutcomeKind style names.now (Good typed)) }
-    ensures told { IfOk result (λ outcome. (db : Database) → IsToldBy names.now (S.state source.old) db
-        → IsOutcomeOf db (reply_to_typed style db typed) outcome) }
-    ensures asked { let old = S.state source.old in
-        IfOk result (λ outcome. ForRowsPut names.now old (Good typed) (λ rows.
-        (S.state source.new).asked ≡ old.asked ++ asked_for rows old names.now (Good typed) outcome)) }
-    ensures front { let old = S.state source.old in
-        OnErr result (ForRowsPut names.now old (Good typed) (λ rows.
-        AsksFront (all_asked rows old names.now (Good typed)) old (S.state source.new))) }
-    ensures kept { Keeps (S.state source.old) (S.state source.new) }
-    ensures cause { Answers (S.state source.old) (S.state source.new) result }
+    ensures come { ComesOf style names.now (S.state source.old) (S.state source.new) (Good typed) result }
     ensures start { S.start source.new ≡ S.start source.old }
 {
     match typed {
-        Typed::Query(plan) => {
-            let outcome = outcome_of_query(
-                rt, alloc, &plan, names, source, style, workers, session, gate,
-            );
-            let_go(plan);
-            outcome
-        }
+        Typed::Query(plan) => outcome_of_query(
+            rt, alloc, plan, names, source, style, workers, session, gate,
+        ),
         Typed::Change(change) => outcome_of_change(
             rt, alloc, change, names, source, style, workers, session, gate,
         ),

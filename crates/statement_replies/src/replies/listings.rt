@@ -1,10 +1,11 @@
 //! Replies to listings and to changes that are accepted.
-ghost use Rattle.std.specs.Prelude.{◌≡◌, IfOk, IsTrue};
+ghost use Rattle.std.specs.Prelude.{◌≡◌, ℕ, List, IfOk, IsTrue};
 ghost use Rattle.plan_changes.specs.Changes.{has_array, next_of};
 ghost use Rattle.result_print.specs.Listings.{stored_line};
 ghost use Rattle.statement_replies.specs.Statements.{change_reply, change_text, list_reply, show_reply, text_alone, versions_reply};
 
 use crate::replies::replies::Reply;
+use crate::replies::texts::with_lines;
 use cell_values::{Bytes, Memory, Name};
 use logical_plan::Names;
 use plan_changes::{Change, entry_named, next_of};
@@ -12,13 +13,13 @@ use result_print::{list_text, ok_line, show_text, stored_line, versions_text};
 use std::alloc::Global;
 
 /// The reply that a text is.
-fn told(text: Bytes) -> Reply
-    ensures { result ≡ text_alone text }
+fn told(text: Result<Bytes, Memory>) -> Result<Reply, Memory>
+    ensures { (words : List ℕ) → IfOk text (λ t. t ≡ words) → IfOk result (λ reply. reply ≡ text_alone words) }
 {
-    Reply {
-        text,
+    Ok(Reply {
+        text: text?,
         refusal: None,
-    }
+    })
 }
 
 /// The numbers of a stored array's versions.
@@ -28,7 +29,7 @@ pub fn versions_reply(alloc: Global, name: &Name, names: &Names) -> Result<Reply
     ensures { IfOk result (λ reply. reply ≡ versions_reply names.now name.now) }
 {
     match entry_named(&names.arrays, name) {
-        Some(entry) => Ok(told(versions_text(alloc, entry)?)),
+        Some(entry) => told(versions_text(alloc, entry)),
         None => unreachable!(),
     }
 }
@@ -40,7 +41,7 @@ pub fn show_reply(alloc: Global, name: &Name, names: &Names) -> Result<Reply, Me
     ensures { IfOk result (λ reply. reply ≡ show_reply names.now name.now) }
 {
     match entry_named(&names.arrays, name) {
-        Some(entry) => Ok(told(show_text(alloc, entry)?)),
+        Some(entry) => told(show_text(alloc, entry)),
         None => unreachable!(),
     }
 }
@@ -49,7 +50,7 @@ pub fn show_reply(alloc: Global, name: &Name, names: &Names) -> Result<Reply, Me
 pub fn list_reply(alloc: Global, names: &Names) -> Result<Reply, Memory>
     ensures { IfOk result (λ reply. reply ≡ list_reply names.now) }
 {
-    Ok(told(list_text(alloc, names)?))
+    told(list_text(alloc, names))
 }
 
 /// The text of a change that stores one more version of an array.
@@ -82,7 +83,5 @@ pub fn accepted_reply(
 ) -> Result<Reply, Memory>
     ensures { IfOk result (λ reply. reply ≡ change_reply names.now lines.now change.now) }
 {
-    let mut text = change_text(alloc, change, names)?;
-    text.extend(lines.as_slice())?;
-    Ok(told(text))
+    told(with_lines(change_text(alloc, change, names), lines))
 }

@@ -20,7 +20,7 @@ ghost use Rattle.statement_replies.specs.Reply.{meant_reply, plan_reply};
 
 use crate::replies::replies::{Reply, or_fault, refuse};
 use crate::replies::style::Style;
-use crate::replies::texts::text_of;
+use crate::replies::texts::{text_of, with_lines};
 use crate::replies::traces::lines_wanted;
 use afl_outside::Gate;
 use afl_trees::Tree;
@@ -132,7 +132,7 @@ fn reply_with_lines<S: ChunkSource>(
     ensures start { S.start source.new ≡ S.start source.old }
 {
     let lines = lines_wanted(alloc, style, plan, source)?;
-    Ok(reply_of(alloc, style, &lines, found)?)
+    or_fault(reply_of(alloc, style, &lines, found))
 }
 
 /// The text of an array, and these lines behind it.
@@ -145,9 +145,7 @@ fn text_with(
     requires { HaveCells array.now.schema array.now.margins.items array.now.chunks }
     ensures { IfOk result (λ text. text ≡ printed style array.now.schema (cores_of array.now) ++ lines.now) }
 {
-    let mut text = text_of(alloc, style, array)?;
-    text.extend(lines.as_slice())?;
-    Ok(text)
+    with_lines(text_of(alloc, style, array), lines)
 }
 
 /// Why an array that is broken is refused.

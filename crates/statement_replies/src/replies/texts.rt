@@ -1,5 +1,5 @@
 //! The texts of arrays in chunks, band by band, so that the rows of one band at a time are in memory.
-ghost use Rattle.std.specs.Prelude.{◌≡◌, ◌++◌, IfOk, OnOk};
+ghost use Rattle.std.specs.Prelude.{◌≡◌, ℕ, List, ◌++◌, IfOk, OnOk};
 ghost use Rattle.std.specs.List.{flat_map};
 ghost use Rattle.array_geom.specs.Link.{NumbersRise, core_rows, numbers};
 ghost use Rattle.array_parts.specs.Cores.{HaveCells, cores_of};
@@ -106,5 +106,14 @@ pub(crate) fn text_of(alloc: Global, style: Style, array: &ChunkedArray) -> Resu
         &array.margins,
         array.chunks.as_slice(),
     )?;
+    Ok(text)
+}
+
+/// A text with these lines behind it.
+pub(crate) fn with_lines(text: Result<Bytes, Memory>, lines: &Bytes) -> Result<Bytes, Memory>
+    ensures { (words : List ℕ) → IfOk text (λ t. t ≡ words) → IfOk result (λ whole. whole ≡ words ++ lines.now) }
+{
+    let mut text = text?;
+    text.extend(lines.as_slice())?;
     Ok(text)
 }

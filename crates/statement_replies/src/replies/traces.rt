@@ -10,6 +10,7 @@ ghost use Rattle.chunk_exec.specs.Computed.{CanCompute};
 ghost use Rattle.changed_chunks.specs.Traced.{askings_over, leaf_line, lines_of, lines_over, plan_askings, plan_lines};
 ghost use Rattle.statement_replies.specs.Reply.{traced};
 ghost use Rattle.statement_replies.specs.Traces.{CanTrace, IsTracedIn, change_lines, change_lines_over, newest_leaf};
+ghost use Rattle.statement_replies.specs.Inner.Listed.{AreListed};
 
 use crate::replies::style::Style;
 use cell_values::{Bytes, Memory, Name};
@@ -81,12 +82,7 @@ fn lines_of_change<S: ChunkSource>(
     target: Asking,
 ) -> Result<Bytes, ExecFault>
     requires { CanTrace (S.state source.old) change.now }
-    ensures over { IfOk result (λ lines. lines ≡ change_lines_over names.now (S.state source.old) target change.now) }
-    ensures told { IfOk result (λ lines. (db : Database) → IsTracedIn names.now (S.state source.old) change.now target db
-        → lines ≡ change_lines db change.now) }
-    ensures asked { (S.state source.new).asked ≡ (S.state source.old).asked }
-    ensures kept { Keeps (S.state source.old) (S.state source.new) }
-    ensures cause { Answers (S.state source.old) (S.state source.new) result }
+    ensures listed { AreListed names.now (S.state source.old) (S.state source.new) change.now target result }
     ensures start { S.start source.new ≡ S.start source.old }
 {
     match change {

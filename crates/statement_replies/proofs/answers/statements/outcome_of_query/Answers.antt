@@ -1,44 +1,41 @@
-use Rattle.std.proofs.Common.{Ok}
+use Rattle.std.proofs.Common.{Result, subst}
 use Rattle.afl_types.specs.declared.types.statements.checking.Typed.TheVariants.{Query as AQuery}
-use Rattle.statement_replies.proofs.Answering.{query_kind, query_told}
-use Rattle.statement_replies.proofs.Asking.{for_each}
+use Rattle.chunk_source.specs.declared.reading.fault.ExecFault.{ExecFault}
+use Rattle.statement_replies.specs.declared.replies.replies.Reply.{Reply}
+use Rattle.statement_replies.specs.Inner.Come.{ComesOf}
+use Rattle.statement_replies.proofs.Answering.{good}
+use Rattle.statement_replies.proofs.Coming.{of_reply, query_comes}
 use Rattle.statement_replies.proofs.answers.statements.outcome_of_query.Goals as goal
 
-pub returns-in-Ok-clause-kind : goal.returns-in-Ok-clause-kind
-returns-in-Ok-clause-kind g c = query_kind c.args.style c.args.names.now (g.S.ChunkSource.state c.args.source.now) c.args.plan.now c.in-Ok.reply c.in-Ok.ensures.kind
+pub answer_query-answer-requires-clause-undamaged : goal.answer_query-answer-requires-clause-undamaged
+answer_query-answer-requires-clause-undamaged g c κs within = c.requires.ready.undamaged
 
-pub returns-in-Ok-clause-told : goal.returns-in-Ok-clause-told
-returns-in-Ok-clause-told g c = query_told c.args.style c.args.names.now (g.S.ChunkSource.state c.args.source.now) c.args.plan.now c.in-Ok.reply c.in-Ok.ensures.told
+pub answer_query-answer-requires-clause-can : goal.answer_query-answer-requires-clause-can
+answer_query-answer-requires-clause-can g c κs within = c.requires.can
 
-pub returns-in-Ok-clause-asked : goal.returns-in-Ok-clause-asked
-returns-in-Ok-clause-asked g c = for_each c.args.names.now (g.S.ChunkSource.state c.args.source.now) (Ok (AQuery c.args.plan.now)) _ (λ rows. c.in-Ok.ensures.asked)
+pub answer_query-answer-requires-clause-workers : goal.answer_query-answer-requires-clause-workers
+answer_query-answer-requires-clause-workers g c κs within = c.requires.ready.workers
 
-pub returns-in-Err-clause-front : goal.returns-in-Err-clause-front
-returns-in-Err-clause-front g c = for_each c.args.names.now (g.S.ChunkSource.state c.args.source.now) (Ok (AQuery c.args.plan.now)) _ (λ rows. c.in-Err.ensures.front)
-
-pub returns-in-Ok-clause-kept : goal.returns-in-Ok-clause-kept
-returns-in-Ok-clause-kept g c = c.in-Ok.ensures.kept
-
-pub returns-in-Ok-clause-cause : goal.returns-in-Ok-clause-cause
-returns-in-Ok-clause-cause g c = c.in-Ok.ensures.cause
+pub returns-in-Ok-clause-come : goal.returns-in-Ok-clause-come
+returns-in-Ok-clause-come g c =
+    let names = c.args.names.now in
+    let old = g.S.ChunkSource.state c.args.source.now in
+    let new = g.S.ChunkSource.state c.answer_query-answer.new.source in
+    let by = c.answer_query-answer.ensures in
+    subst (λ (r : Result Reply ExecFault). ComesOf c.args.style names old new (good (AQuery c.args.plan)) (of_reply r)) c.in-Ok.is
+    (query_comes c.args.style names old new c.args.plan c.answer_query-answer.result by.kind by.told by.asked by.front by.kept by.cause)
 
 pub returns-in-Ok-clause-start : goal.returns-in-Ok-clause-start
-returns-in-Ok-clause-start g c = c.in-Ok.ensures.start
+returns-in-Ok-clause-start g c = c.answer_query-answer.ensures.start
 
-pub returns-in-Err-clause-kept : goal.returns-in-Err-clause-kept
-returns-in-Err-clause-kept g c = c.in-Err.ensures.kept
-
-pub returns-in-Err-clause-cause : goal.returns-in-Err-clause-cause
-returns-in-Err-clause-cause g c = c.in-Err.ensures.cause
+pub returns-in-Err-clause-come : goal.returns-in-Err-clause-come
+returns-in-Err-clause-come g c =
+    let names = c.args.names.now in
+    let old = g.S.ChunkSource.state c.args.source.now in
+    let new = g.S.ChunkSource.state c.answer_query-answer.new.source in
+    let by = c.answer_query-answer.ensures in
+    subst (λ (r : Result Reply ExecFault). ComesOf c.args.style names old new (good (AQuery c.args.plan)) (of_reply r)) c.in-Err.is
+    (query_comes c.args.style names old new c.args.plan c.answer_query-answer.result by.kind by.told by.asked by.front by.kept by.cause)
 
 pub returns-in-Err-clause-start : goal.returns-in-Err-clause-start
-returns-in-Err-clause-start g c = c.in-Err.ensures.start
-
-pub answer_query-requires-clause-undamaged : goal.answer_query-requires-clause-undamaged
-answer_query-requires-clause-undamaged g c κs within = c.requires.undamaged
-
-pub answer_query-requires-clause-can : goal.answer_query-requires-clause-can
-answer_query-requires-clause-can g c κs within = c.requires.can
-
-pub answer_query-requires-clause-workers : goal.answer_query-requires-clause-workers
-answer_query-requires-clause-workers g c κs within = c.requires.workers
+returns-in-Err-clause-start g c = c.answer_query-answer.ensures.start
