@@ -2,6 +2,7 @@ pub mod Acts
 pub mod ActsJoined
 pub mod Adding
 pub mod Answered
+pub mod Attempts
 pub mod Beginnings
 pub mod Behind
 pub mod BehindPins

@@ -14,12 +14,10 @@ ghost use Rattle.snapshot_manager.specs.Seats.{ledger_seen, read_count, seen, st
 ghost use Rattle.session_answers.specs.AnsweredUnder.{IsAnsweredUnder};
 ghost use Rattle.session_answers.specs.Inner.Steps.{AddsNoAct, Tells};
 
-use crate::replies::{Reply, at_place, uncommitted};
+use crate::replies::{Attempt, Reply, at_place, uncommitted};
 use crate::turns::{Options, answer_held};
 use afl_outside::{Disk, Gate};
 use afl_trees::Tree;
-use array_geom::Changed;
-use plan_changes::Change;
 use snapshot_manager::{Commit, CommitFault, Seat, Shared, StoreTurn};
 use statement_replies::{Reply as Words, let_go_reply};
 use std::alloc::Global;
@@ -27,7 +25,7 @@ use std::sync::Wait;
 use std::thread::Threads;
 use store_ledger::Pinned;
 
-/// Commits a change that a statement was under the pin, with these words where it is made, and answers as it goes.
+/// Commits a change that a statement was under the pin, and answers as it goes.
 pub(crate) fn commit<D: Disk, R: Threads + Wait + Sync, G: Gate>(
     rt: &R,
     alloc: Global,
@@ -36,23 +34,21 @@ pub(crate) fn commit<D: Disk, R: Threads + Wait + Sync, G: Gate>(
     pinned: &Pinned,
     text: &[u8],
     tree: &Tree,
-    change: Change,
-    changed: Option<Changed>,
-    words: Words,
+    attempt: Attempt,
     options: &Options,
     gate: &G,
 ) -> (Reply, Seat<D>)
     requires seat { IsSeatOf shared.now seat × IsIdle seat }
     requires pin { HoldsPin D.moment shared.now seat pinned.now }
     requires tried { is_noted is_tried (ledger_seen D.moment shared.now seat) pinned.now.session ≡ false }
-    requires allowed { MayBeCommitted pinned.now.names change changed }
+    requires allowed { MayBeCommitted pinned.now.names attempt.change attempt.changed }
     requires database { (db : Database) → BeganAs (D.moment (start D.moment shared.now).opened.disk).state db
         → IsDatabaseOf (database_with db (store_seen D.moment shared.now seat) pinned.now.place) pinned.now.names }
     requires may { (db : Database) → BeganAs (D.moment (start D.moment shared.now).opened.disk).state db
-        → MayBeMade (database_with db (store_seen D.moment shared.now seat) pinned.now.place) change changed }
+        → MayBeMade (database_with db (store_seen D.moment shared.now seat) pinned.now.place) attempt.change attempt.changed }
     requires said { Says options.now.style D.moment (start D.moment shared.now) (seen seat) text.now tree.now (pinned.now.place + 1)
-        (record { reply = words; change = Some change }) }
-    requires typed { SaysChange options.now.style D.moment (start D.moment shared.now) (seen seat) text.now tree.now (pinned.now.place + 1) change }
+        (record { reply = attempt.words; change = Some attempt.change }) }
+    requires typed { SaysChange options.now.style D.moment (start D.moment shared.now) (seen seat) text.now tree.now (pinned.now.place + 1) attempt.change }
     requires fit { IsTrue (leaves_fit tree.now) }
     requires workers { (1 ≤ options.now.workers) × (options.now.workers ≤ 64) }
     ensures seat { IsSeatOf shared.now result.1 × IsIdle result.1 }
@@ -63,6 +59,11 @@ pub(crate) fn commit<D: Disk, R: Threads + Wait + Sync, G: Gate>(
         → IsAnsweredUnder options.now.style D.moment (start D.moment shared.now) pinned.now.session pinned.now.place
         first (seen result.1) text.now tree.now result.0 }
 {
+    let Attempt {
+        change,
+        changed,
+        words,
+    } = attempt;
     let mut seat = seat;
     let answer = shared.commit(rt, alloc, &mut seat, pinned, change, changed);
     match tell(alloc, answer, words, seat.seen()) {

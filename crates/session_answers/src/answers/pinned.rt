@@ -14,7 +14,7 @@ ghost use Rattle.session_answers.specs.Inner.Steps.{WasRead};
 ghost use Rattle.session_answers.specs.Reads.{CountsAt};
 
 use crate::answers::committing::commit;
-use crate::replies::{Reply, at_place, unread};
+use crate::replies::{Reply, reply_read};
 use crate::turns::Options;
 use afl_outside::{Disk, Gate, Point};
 use afl_trees::Tree;
@@ -59,21 +59,14 @@ pub(crate) fn answer_pinned<D: Disk, R: Threads + Wait + Sync, G: Gate>(
 {
     let place = behind(shared, &seat, pinned);
     let (outcome, seat) = read_under(rt, alloc, shared, seat, pinned, text, tree, options, gate);
-    match outcome {
-        Ok(Outcome::Replied(words)) => (at_place(words, place), seat),
-        Ok(
-            Outcome::Changes {
-                change,
-                changed,
-                reply,
-            },
-        ) => {
+    match reply_read(alloc, outcome, place) {
+        Ok(reply) => (reply, seat),
+        Err(attempt) => {
             gate.pass(pinned.session, Point::Computed(number));
             commit(
-                rt, alloc, shared, seat, pinned, text, tree, change, changed, reply, options, gate,
+                rt, alloc, shared, seat, pinned, text, tree, attempt, options, gate,
             )
         }
-        Err(fault) => (unread(alloc, fault, place), seat),
     }
 }
 

@@ -21,15 +21,13 @@ ghost use Rattle.snapshot_manager.specs.Told.{IsTold};
 ghost use Rattle.session_answers.specs.Inner.Turns.{store_in, Follows, Goes, IsTried, KeepsTurn, TellsCommit};
 ghost use Rattle.session_answers.specs.AnsweredUnder.{IsAnsweredInTurn};
 
-use crate::replies::{Reply, at_place, uncommitted, unread, want};
+use crate::replies::{Attempt, Reply, at_place, reply_read, uncommitted, want};
 use crate::turns::settings::Options;
 use afl_outside::{Disk, Gate};
 use afl_trees::Tree;
-use array_geom::Changed;
 use cell_values::Memory;
 use chunk_source::ExecFault;
 use logical_plan::Names;
-use plan_changes::Change;
 use session_sources::HeldSource;
 use snapshot_manager::{CommitFault, Seat, Shared, StoreTurn, commit};
 use statement_replies::{Outcome, Reply as Words, let_go_reply, outcome_of};
@@ -167,34 +165,30 @@ fn answer_read<D: Disk>(
 {
     let mut turn = turn;
     let place = turn.value().history().len() as u64;
-    match outcome {
-        Ok(Outcome::Replied(words)) => (at_place(words, place), turn),
-        Ok(
-            Outcome::Changes {
-                change,
-                changed,
-                reply,
-            },
-        ) => commit_in_turn(alloc, turn, session, change, changed, reply),
-        Err(fault) => (unread(alloc, fault, place), turn),
+    match reply_read(alloc, outcome, place) {
+        Ok(reply) => (reply, turn),
+        Err(attempt) => commit_in_turn(alloc, turn, session, attempt),
     }
 }
 
-/// Commits a change of a session in a turn. These words tell that it is made.
+/// Commits a change of a session in a turn.
 fn commit_in_turn<D: Disk>(
     alloc: Global,
     turn: StoreTurn<D>,
     session: u32,
-    change: Change,
-    changed: Option<Changed>,
-    words: Words,
+    attempt: Attempt,
 ) -> (Reply, StoreTurn<D>)
     requires pinned { IsTrue (is_pinned session (history (store_of turn).ledger)) }
     requires tried { is_noted is_tried (store_of turn).ledger session ≡ false }
-    requires asked { IsAsked D.moment (store_in D.moment turn) change changed }
+    requires asked { IsAsked D.moment (store_in D.moment turn) attempt.change attempt.changed }
     ensures keeps { KeepsTurn D.moment session turn result.1 }
-    ensures tried { IsTried D.moment session change words (store_in D.moment turn) (store_in D.moment result.1) result.0 }
+    ensures tried { IsTried D.moment session attempt.change attempt.words (store_in D.moment turn) (store_in D.moment result.1) result.0 }
 {
+    let Attempt {
+        change,
+        changed,
+        words,
+    } = attempt;
     let mut turn = turn;
     let store = turn.value();
     let answer = commit(alloc, store, session, change, changed);

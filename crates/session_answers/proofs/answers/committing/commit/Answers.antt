@@ -28,39 +28,39 @@ returns-in-Ok g c =
     let e = c.commit-answer.ensures in
     let o = r.pin.open_pin in
     let tells = c.in-Ok.ensures in record {
-      seat = (e.seat, ended c.seen.result c.args.words c.commit-answer.result c.in-Ok.reply tells e.idle);
+      seat = (e.seat, ended c.seen.result c.args.attempt.words c.commit-answer.result c.in-Ok.reply tells e.idle);
       same = e.same;
       reads = e.reads;
       pin = e.pin;
-      answered = λ first before a. told_is_answered c.args.options.now.style moment began c.args.pinned.now c.args.change first before old (seen c.commit-answer.new.seat)
+      answered = λ first before a. told_is_answered c.args.options.now.style moment began c.args.pinned.now c.args.attempt.change first before old (seen c.commit-answer.new.seat)
           c.args.text.now c.args.tree.now c.in-Ok.reply a o (pin_within began old c.args.pinned.now o) (named_behind moment began old c.args.pinned.now o r.database) r.typed
-          c.args.words c.seen.result c.commit-answer.result tells (c.seen.ensures ∙ e.seat.counts) e.done e.place e.next e.fits e.err e.cause r.said;
+          c.args.attempt.words c.seen.result c.commit-answer.result tells (c.seen.ensures ∙ e.seat.counts) e.done e.place e.next e.fits e.err e.cause r.said;
     }
 
 pub answer_held-requires-clause-seat : goal.answer_held-requires-clause-seat
 answer_held-requires-clause-seat g c κs within =
     let tells = c.in-Err.ensures in
-    (c.commit-answer.ensures.seat, left_stale _ c.seen.result c.args.words c.commit-answer.result c.in-Err.turn tells c.commit-answer.ensures.turn)
+    (c.commit-answer.ensures.seat, left_stale _ c.seen.result c.args.attempt.words c.commit-answer.result c.in-Err.turn tells c.commit-answer.ensures.turn)
 
 pub answer_held-requires-clause-start : goal.answer_held-requires-clause-start
 answer_held-requires-clause-start g c κs within =
     let tells = c.in-Err.ensures in
-    left_stale _ c.seen.result c.args.words c.commit-answer.result c.in-Err.turn tells c.commit-answer.ensures.began
+    left_stale _ c.seen.result c.args.attempt.words c.commit-answer.result c.in-Err.turn tells c.commit-answer.ensures.began
 
 pub answer_held-requires-clause-events : goal.answer_held-requires-clause-events
 answer_held-requires-clause-events g c κs within =
     let tells = c.in-Err.ensures in
-    left_stale _ c.seen.result c.args.words c.commit-answer.result c.in-Err.turn tells c.commit-answer.ensures.events
+    left_stale _ c.seen.result c.args.attempt.words c.commit-answer.result c.in-Err.turn tells c.commit-answer.ensures.events
 
 pub answer_held-requires-clause-held : goal.answer_held-requires-clause-held
 answer_held-requires-clause-held g c κs within =
     let tells = c.in-Err.ensures in
-    left_stale _ c.seen.result c.args.words c.commit-answer.result c.in-Err.turn tells c.commit-answer.ensures.held
+    left_stale _ c.seen.result c.args.attempt.words c.commit-answer.result c.in-Err.turn tells c.commit-answer.ensures.held
 
 pub answer_held-requires-clause-tried : goal.answer_held-requires-clause-tried
 answer_held-requires-clause-tried g c κs within =
     let tells = c.in-Err.ensures in
-    let found = left_stale _ c.seen.result c.args.words c.commit-answer.result c.in-Err.turn tells c.commit-answer.ensures.found in
+    let found = left_stale _ c.seen.result c.args.attempt.words c.commit-answer.result c.in-Err.turn tells c.commit-answer.ensures.found in
     still_untried (start g.D.Disk.moment c.args.shared.now) c.args.pinned.now (session_of c.args.seat) (seen c.args.seat) (seen c.commit-answer.new.seat)
     c.requires.pin.own found c.requires.tried
 
@@ -69,8 +69,8 @@ answer_held-requires-clause-pin g c κs within = c.commit-answer.ensures.pin
 
 pub answer_held-requires-clause-change : goal.answer_held-requires-clause-change
 answer_held-requires-clause-change g c κs within = (
-  c.args.change,
-  change_under c.args.options.now.style g.D.Disk.moment (start g.D.Disk.moment c.args.shared.now) (seen c.args.seat) c.args.pinned.now c.args.text.now c.args.tree.now c.args.change
+  c.args.attempt.change,
+  change_under c.args.options.now.style g.D.Disk.moment (start g.D.Disk.moment c.args.shared.now) (seen c.args.seat) c.args.pinned.now c.args.text.now c.args.tree.now c.args.attempt.change
       c.requires.pin.open_pin c.requires.typed,
 )
 
@@ -80,7 +80,7 @@ returns-in-Err g c =
     let r = c.requires in
     let e = c.commit-answer.ensures in
     let tells = c.in-Err.ensures in
-    let found = left_stale _ c.seen.result c.args.words c.commit-answer.result c.in-Err.turn tells e.found in
+    let found = left_stale _ c.seen.result c.args.attempt.words c.commit-answer.result c.in-Err.turn tells e.found in
     let h = c.answer_held.ensures in record {
       seat = h.seat;
       same = record { session = h.same.session ∙ e.same.session; last = h.same.last ∙ e.same.last };

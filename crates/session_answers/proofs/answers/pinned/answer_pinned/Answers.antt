@@ -1,42 +1,27 @@
-use Rattle.std.proofs.Common.{◌∙◌, Ok, ap, subst, sym}
+use Rattle.std.proofs.Common.{◌∙◌, subst, sym}
 use Rattle.snapshot_manager.specs.Seats.{read_count, seen, start}
 use Rattle.session_answers.specs.Inner.Steps.{WasRead}
 use Rattle.session_answers.specs.Reads.{CountsAt}
-use Rattle.session_answers.proofs.Readings.{change_is_read, database_now, no_act, replied_is_answered, unread_is_answered}
-use Rattle.session_answers.proofs.Counting.{change_counts, replied_counts, unread_refuses}
+use Rattle.session_answers.proofs.Attempts.{told_answers, told_counts, was_change}
+use Rattle.session_answers.proofs.Readings.{change_is_read, database_now, no_act}
+use Rattle.session_answers.proofs.Counting.{change_counts}
 use Rattle.session_answers.proofs.answers.pinned.answer_pinned.Goals as goal
 
-pub returns-in-Ok-Replied : goal.returns-in-Ok-Replied
-returns-in-Ok-Replied g c =
+pub returns-in-Ok : goal.returns-in-Ok
+returns-in-Ok g c =
     let style = c.args.options.now.style in
     let moment = g.D.Disk.moment in
     let r = c.requires in
+    let outcome = c.read_under-outcome.result.0 in
     let seat = c.read_under-outcome.result.1 in
-    let w = subst (λ result. WasRead style moment c.args.shared.now c.args.pinned.now c.args.seat seat c.args.text.now c.args.tree.now result) (c.in-Ok-Replied.is ∙ ap Ok c.in-Ok-Replied.field-0-is) c.read_under-outcome.ensures.read in
-    let e = c.at_place.ensures in record {
+    let w = c.read_under-outcome.ensures.read in record {
       seat = w.read.seat;
       same = w.read.same;
       pin = w.read.pin;
-      answered = replied_is_answered style moment c.args.shared.now c.args.pinned.now c.args.seat seat c.args.text.now c.args.tree.now
-          r.database r.untried c.in-Ok-Replied.words c.at_place.result w e.words (e.place ∙ c.behind-place.ensures);
-      reads = λ accepted. replied_counts style moment c.args.shared.now c.args.pinned.now c.args.seat seat c.args.text.now c.args.tree.now r.database c.in-Ok-Replied.words w
-          (sym (ap (λ words. words.refusal) e.words) ∙ accepted);
-    }
-
-pub returns-in-Err : goal.returns-in-Err
-returns-in-Err g c =
-    let style = c.args.options.now.style in
-    let moment = g.D.Disk.moment in
-    let r = c.requires in
-    let seat = c.read_under-outcome.result.1 in
-    let w = subst (λ result. WasRead style moment c.args.shared.now c.args.pinned.now c.args.seat seat c.args.text.now c.args.tree.now result) c.in-Err.is c.read_under-outcome.ensures.read in
-    let e = c.unread.ensures in record {
-      seat = w.read.seat;
-      same = w.read.same;
-      pin = w.read.pin;
-      answered = unread_is_answered style moment c.args.shared.now c.args.pinned.now c.args.seat seat c.args.text.now c.args.tree.now
-          r.database r.untried c.in-Err.fault c.unread.result w e.words (e.place ∙ c.behind-place.ensures);
-      reads = λ accepted. absurd (unread_refuses c.in-Err.fault c.unread.result e.words accepted);
+      answered = told_answers style moment c.args.shared.now c.args.pinned.now c.args.seat seat c.args.text.now c.args.tree.now
+          r.database r.untried c.behind-place.result c.in-Ok.reply outcome w c.in-Ok.ensures c.behind-place.ensures;
+      reads = told_counts style moment c.args.shared.now c.args.pinned.now c.args.seat seat c.args.text.now c.args.tree.now
+          r.database r.untried c.behind-place.result c.in-Ok.reply outcome w c.in-Ok.ensures;
     }
 
 pub commit-requires-clause-seat : goal.commit-requires-clause-seat
@@ -53,9 +38,9 @@ commit-requires-clause-tried g c κs within =
     let moment = g.D.Disk.moment in
     let r = c.requires in
     let seat = c.read_under-outcome.result.1 in
-    let w = subst (λ result. WasRead style moment c.args.shared.now c.args.pinned.now c.args.seat seat c.args.text.now c.args.tree.now result) (c.in-Ok-Changes.is ∙ ap Ok c.in-Ok-Changes.field-0-is) c.read_under-outcome.ensures.read in
+    let w = subst (λ result. WasRead style moment c.args.shared.now c.args.pinned.now c.args.seat seat c.args.text.now c.args.tree.now result) (was_change c.behind-place.result c.read_under-outcome.result.0 c.in-Err.attempt c.in-Err.ensures) c.read_under-outcome.ensures.read in
     (change_is_read style moment c.args.shared.now c.args.pinned.now c.args.seat seat c.args.text.now c.args.tree.now r.database r.untried
-    c.in-Ok-Changes.change c.in-Ok-Changes.changed c.in-Ok-Changes.reply w).tried
+    c.in-Err.attempt.change c.in-Err.attempt.changed c.in-Err.attempt.words w).tried
 
 pub commit-requires-clause-allowed : goal.commit-requires-clause-allowed
 commit-requires-clause-allowed g c κs within =
@@ -63,9 +48,9 @@ commit-requires-clause-allowed g c κs within =
     let moment = g.D.Disk.moment in
     let r = c.requires in
     let seat = c.read_under-outcome.result.1 in
-    let w = subst (λ result. WasRead style moment c.args.shared.now c.args.pinned.now c.args.seat seat c.args.text.now c.args.tree.now result) (c.in-Ok-Changes.is ∙ ap Ok c.in-Ok-Changes.field-0-is) c.read_under-outcome.ensures.read in
+    let w = subst (λ result. WasRead style moment c.args.shared.now c.args.pinned.now c.args.seat seat c.args.text.now c.args.tree.now result) (was_change c.behind-place.result c.read_under-outcome.result.0 c.in-Err.attempt c.in-Err.ensures) c.read_under-outcome.ensures.read in
     (change_is_read style moment c.args.shared.now c.args.pinned.now c.args.seat seat c.args.text.now c.args.tree.now r.database r.untried
-    c.in-Ok-Changes.change c.in-Ok-Changes.changed c.in-Ok-Changes.reply w).allowed
+    c.in-Err.attempt.change c.in-Err.attempt.changed c.in-Err.attempt.words w).allowed
 
 pub commit-requires-clause-database : goal.commit-requires-clause-database
 commit-requires-clause-database g c κs within =
@@ -78,9 +63,9 @@ commit-requires-clause-may g c κs within =
     let moment = g.D.Disk.moment in
     let r = c.requires in
     let seat = c.read_under-outcome.result.1 in
-    let w = subst (λ result. WasRead style moment c.args.shared.now c.args.pinned.now c.args.seat seat c.args.text.now c.args.tree.now result) (c.in-Ok-Changes.is ∙ ap Ok c.in-Ok-Changes.field-0-is) c.read_under-outcome.ensures.read in
+    let w = subst (λ result. WasRead style moment c.args.shared.now c.args.pinned.now c.args.seat seat c.args.text.now c.args.tree.now result) (was_change c.behind-place.result c.read_under-outcome.result.0 c.in-Err.attempt c.in-Err.ensures) c.read_under-outcome.ensures.read in
     (change_is_read style moment c.args.shared.now c.args.pinned.now c.args.seat seat c.args.text.now c.args.tree.now r.database r.untried
-    c.in-Ok-Changes.change c.in-Ok-Changes.changed c.in-Ok-Changes.reply w).may
+    c.in-Err.attempt.change c.in-Err.attempt.changed c.in-Err.attempt.words w).may
 
 pub commit-requires-clause-said : goal.commit-requires-clause-said
 commit-requires-clause-said g c κs within =
@@ -88,9 +73,9 @@ commit-requires-clause-said g c κs within =
     let moment = g.D.Disk.moment in
     let r = c.requires in
     let seat = c.read_under-outcome.result.1 in
-    let w = subst (λ result. WasRead style moment c.args.shared.now c.args.pinned.now c.args.seat seat c.args.text.now c.args.tree.now result) (c.in-Ok-Changes.is ∙ ap Ok c.in-Ok-Changes.field-0-is) c.read_under-outcome.ensures.read in
+    let w = subst (λ result. WasRead style moment c.args.shared.now c.args.pinned.now c.args.seat seat c.args.text.now c.args.tree.now result) (was_change c.behind-place.result c.read_under-outcome.result.0 c.in-Err.attempt c.in-Err.ensures) c.read_under-outcome.ensures.read in
     (change_is_read style moment c.args.shared.now c.args.pinned.now c.args.seat seat c.args.text.now c.args.tree.now r.database r.untried
-    c.in-Ok-Changes.change c.in-Ok-Changes.changed c.in-Ok-Changes.reply w).said
+    c.in-Err.attempt.change c.in-Err.attempt.changed c.in-Err.attempt.words w).said
 
 pub commit-requires-clause-typed : goal.commit-requires-clause-typed
 commit-requires-clause-typed g c κs within =
@@ -98,17 +83,17 @@ commit-requires-clause-typed g c κs within =
     let moment = g.D.Disk.moment in
     let r = c.requires in
     let seat = c.read_under-outcome.result.1 in
-    let w = subst (λ result. WasRead style moment c.args.shared.now c.args.pinned.now c.args.seat seat c.args.text.now c.args.tree.now result) (c.in-Ok-Changes.is ∙ ap Ok c.in-Ok-Changes.field-0-is) c.read_under-outcome.ensures.read in
+    let w = subst (λ result. WasRead style moment c.args.shared.now c.args.pinned.now c.args.seat seat c.args.text.now c.args.tree.now result) (was_change c.behind-place.result c.read_under-outcome.result.0 c.in-Err.attempt c.in-Err.ensures) c.read_under-outcome.ensures.read in
     (change_is_read style moment c.args.shared.now c.args.pinned.now c.args.seat seat c.args.text.now c.args.tree.now r.database r.untried
-    c.in-Ok-Changes.change c.in-Ok-Changes.changed c.in-Ok-Changes.reply w).typed
+    c.in-Err.attempt.change c.in-Err.attempt.changed c.in-Err.attempt.words w).typed
 
-pub returns-in-Ok-Changes : goal.returns-in-Ok-Changes
-returns-in-Ok-Changes g c =
+pub returns-in-Err : goal.returns-in-Err
+returns-in-Err g c =
     let style = c.args.options.now.style in
     let moment = g.D.Disk.moment in
     let r = c.requires in
     let seat = c.read_under-outcome.result.1 in
-    let w = subst (λ result. WasRead style moment c.args.shared.now c.args.pinned.now c.args.seat seat c.args.text.now c.args.tree.now result) (c.in-Ok-Changes.is ∙ ap Ok c.in-Ok-Changes.field-0-is) c.read_under-outcome.ensures.read in
+    let w = subst (λ result. WasRead style moment c.args.shared.now c.args.pinned.now c.args.seat seat c.args.text.now c.args.tree.now result) (was_change c.behind-place.result c.read_under-outcome.result.0 c.in-Err.attempt c.in-Err.ensures) c.read_under-outcome.ensures.read in
     let e = c.commit.ensures in record {
       seat = e.seat;
       same = record { session = e.same.session ∙ w.read.same.session; last = e.same.last ∙ w.read.same.last };
@@ -117,7 +102,7 @@ returns-in-Ok-Changes g c =
           (no_act style moment c.args.shared.now c.args.pinned.now c.args.seat seat c.args.text.now c.args.tree.now r.database r.untried _ w);
       reads = λ accepted. subst (CountsAt moment (start moment c.args.shared.now) (seen c.args.seat) c.args.pinned.now.place c.args.pinned.now.names c.args.text.now c.args.tree.now (read_count c.args.seat)) (sym e.reads)
           (change_counts style moment c.args.shared.now c.args.pinned.now c.args.seat seat c.args.text.now c.args.tree.now r.database
-          c.in-Ok-Changes.change c.in-Ok-Changes.changed c.in-Ok-Changes.reply w);
+          c.in-Err.attempt.change c.in-Err.attempt.changed c.in-Err.attempt.words w);
     }
 
 pub read_under-outcome-requires-clause-seat : goal.read_under-outcome-requires-clause-seat

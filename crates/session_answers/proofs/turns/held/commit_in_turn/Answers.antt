@@ -17,9 +17,9 @@ returns-clause-keeps g c =
     let old = events (store_in moment c.args.turn) in
     let are : events s ≡ old = ap (λ p. events (standing moment p)) c.value-store.ensures.value in record {
       turn = λ seat has. has;
-      start = commit_start session c.args.change old s n are c.commit-answer.result answer.done answer.err
+      start = commit_start session c.args.attempt.change old s n are c.commit-answer.result answer.done answer.err
           ∙ ap (λ p. start_of (standing moment p)) c.value-store.ensures.value;
-      extends = commit_extends session c.args.change old s n are c.commit-answer.result answer.done answer.err;
+      extends = commit_extends session c.args.attempt.change old s n are c.commit-answer.result answer.done answer.err;
     }
 
 pub returns-clause-tried : goal.returns-clause-tried
@@ -27,7 +27,7 @@ returns-clause-tried g c =
     let moment = g.D.Disk.moment in
     let n = standing moment c.commit-answer.new.store in
     let answer = c.commit-answer.ensures in
-    subst (λ p. IsTried moment c.args.session c.args.change c.args.words (standing moment p) n c.tell_commit.result) c.value-store.ensures.value (record {
+    subst (λ p. IsTried moment c.args.session c.args.attempt.change c.args.attempt.words (standing moment p) n c.tell_commit.result) c.value-store.ensures.value (record {
       answer = c.commit-answer.result;
       done = answer.done;
       place = answer.place;
@@ -35,9 +35,9 @@ returns-clause-tried g c =
       fits = answer.fits;
       err = answer.err;
       cause = answer.cause;
-      tells = subst (λ count. TellsCommit count c.args.words c.commit-answer.result c.tell_commit.result) (ap length c.history.ensures) c.tell_commit.ensures;
+      tells = subst (λ count. TellsCommit count c.args.attempt.words c.commit-answer.result c.tell_commit.result) (ap length c.history.ensures) c.tell_commit.ensures;
     })
 
 pub commit-answer-requires-clause-asked : goal.commit-answer-requires-clause-asked
 commit-answer-requires-clause-asked g c =
-    subst (λ p. IsAsked g.D.Disk.moment (standing g.D.Disk.moment p) c.args.change c.args.changed) (sym c.value-store.ensures.value) c.requires.asked
+    subst (λ p. IsAsked g.D.Disk.moment (standing g.D.Disk.moment p) c.args.attempt.change c.args.attempt.changed) (sym c.value-store.ensures.value) c.requires.asked
