@@ -2,9 +2,7 @@
 use mathlib.Core.List.{[], ◌∷◌}
 use mir.Syntax.{Sym}
 use denote.RattleType.{RattleType}
-use denote.Enum.Declared as variants
-use denote.Enum.Enum.{Enum}
-use denote.Param.Send.{enum_send, recorded_send, recorded_sync, struct_send, struct_sync, IsSend, IsSync, sendable}
+use denote.Param.Send.{recorded_send, recorded_sync, struct_send, struct_sync, IsSend, IsSync, sendable}
 use denote.Struct.Declared.{row, shape, Declared}
 use denote.Struct.Tuple.{type_at}
 use Rattle.std.proofs.Crossing.{crosses}
@@ -79,10 +77,6 @@ module _ (D : RattleType) (g : Ghosts D.Denot) (s : IsSend D) where
   pub shared_sync : IsSync (shared.the_row D g)
   shared_sync = search (sendable, crosses, the_sync, lease.the_sync, store_send) depth 40 fits 100000
 
-  -- the same where it is a field
-  seat_field_send : IsSend (seat.the_field D g).row
-  seat_field_send = search (sendable, crosses, the_send, store_send) depth 40
-
 pub options_sync : IsSync options.the_row
 options_sync = search (sendable, crosses) depth 40
 
@@ -96,16 +90,16 @@ mark_send : IsSend mark.the_row
 mark_send = search (sendable, crosses, refusal_send) depth 100 fits 100000
 
 module _ (S K : RattleType) (s : IsSend S) (k : IsSend K) where
-  streams_field : IsSend (streams.the_field S K).row
-  streams_field = search (sendable, crosses, splitter_send) depth 40
+  streams_send : IsSend (streams.the_row S K)
+  streams_send = search (sendable, crosses, splitter_send) depth 40
 
-  report_field : IsSend (report.the_field S K).row
-  report_field = search (sendable, crosses, mark_send) depth 40
+  report_send : IsSend (report.the_row S K)
+  report_send = search (sendable, crosses, mark_send) depth 40
+
+-- whatever its parts are
+part_send : (A B C : RattleType) → IsSend A → IsSend B → IsSend C → IsSend (desk.the_row A B C)
+part_send A B C a b c = search (sendable, crosses) depth 40
 
 module _ (D S K : RattleType) (g : Ghosts D.Denot) (d : IsSend D) (s : IsSend S) (k : IsSend K) where
-  pub desk_send : IsSend (desk.the_row D S K g)
-  desk_send =
-      let T = desk.the_type D S K g in
-      let seat = seat_field_send D g d in
-      recorded_send (Enum (variants.shape T)) T.D T.to T.to_one
-      (enum_send (variants.shape T) ((seat, (streams_field S K s k, tt)), (tt, ((seat, (report_field S K s k, tt)), tt))))
+  pub desk_send : IsSend (desk.the_row (seat.the_row D g) (streams.the_row S K) (report.the_row S K))
+  desk_send = part_send _ _ _ (seat_send D g d) (streams_send S K s k) (report_send S K s k)

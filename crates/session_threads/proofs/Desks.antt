@@ -1,7 +1,5 @@
 -- Desks that are set up one by one, and emptied one by one.
-use Rattle.std.proofs.Common.{◌≡◌, ◌∙◌, ℕ, ◌+◌, ◌<◌, true, not, List, [], ◌∷◌, ◌++◌, length, take, drop, get_or, slice_get, Option, Some, refl, ap, sym, subst, arith, length-drop, All}
-use Rattle.std.specs.Prelude.{IsTrue}
-use Rattle.std.proofs.lemmas.List.{take_at}
+use Rattle.std.proofs.Common.{◌≡◌, ◌∙◌, ℕ, ◌+◌, ◌<◌, true, List, [], ◌∷◌, ◌++◌, length, drop, get_or, slice_get, Option, Some, refl, ap, sym, subst, arith, length-drop, All}
 use Rattle.std.proofs.lemmas.List.Elements.{All-push}
 use Rattle.std.proofs.lemmas.Option.{slice_get_within, get_or_from_slice_get}
 use Rattle.afl_lexer.specs.Inner.Standing.{StandsAfter}
@@ -11,19 +9,16 @@ use Rattle.afl_outside.specs.Source.{SourceState}
 use Rattle.turn_lock.specs.Owners.{none_of, AreOwnedBelow, ExtendsByOthers}
 use Rattle.turn_lock.proofs.Gathering.{all_last, all_left, places_more}
 use Rattle.turn_lock.proofs.Lists.{below_one_less, none_append}
-use Rattle.event_core.specs.Allowed.{is_pinned}
-use Rattle.store_ledger.specs.Ledger.{history}
 use Rattle.store_state.specs.declared.state.event.Event.{Event}
 use Rattle.store_state.specs.Events.{owner_of}
-use Rattle.snapshot_manager.specs.Seats.{seen, session_of, start, AreIdleSeats, AreNewSeats, ExtendEach, HoldsNone, IsIdle, IsNewSeat, IsSeatOf}
-use Rattle.snapshot_manager.specs.Told.{ledger_of}
+use Rattle.snapshot_manager.specs.Seats.{seen, session_of, start, AreIdleSeats, AreNewSeats, ExtendEach, IsIdle, IsNewSeat, IsSeatOf}
 use Rattle.snapshot_manager.specs.declared.seat.Seat.{Seat}
 use Rattle.snapshot_manager.specs.declared.shared.Shared.{Shared}
 use Rattle.run_opening.specs.declared.reports.reports.SessionReport.{SessionReport}
 use Rattle.run_opening.specs.declared.reports.reports.Streams.{Streams}
 use Rattle.afl_session.specs.Style.{Style}
 use Rattle.session_threads.specs.Sessions.{AreOfSessions, AreSessionsOf, IsSessionOf}
-use Rattle.session_threads.specs.Inner.Desks.{AllWorked, AreDone, AreEmptied, AreReady, AreSeated, HasEnded, HasServed, HasWorked, IsDone, IsReady, IsReaper, IsSeated, IsWaiting}
+use Rattle.session_threads.specs.Inner.Desks.{AllWorked, AreDone, AreEmptied, AreReady, AreSeated, HasEnded, HasServed, HasWorked, IsDone, IsReady, IsReaper, IsSeated, IsWaiting, SessionDesk}
 use Rattle.session_threads.specs.declared.desk.Desk.{Desk}
 use Rattle.session_threads.specs.declared.desk.Desk.TheVariants.{Waiting, Working, Done}
 
@@ -35,12 +30,7 @@ module _ {D : Type 0} (shared : Shared D) where
   pub new_at : (seats : List (Seat D)) (n : ℕ) (seat : Seat D) → AreNewSeats shared seats → slice_get seats n ≡ Some seat → IsNewSeat shared n seat
   new_at seats n seat are e = subst (IsNewSeat shared n) (get_or_from_slice_get seats n seat seat e) (are n seat (slice_get_within seats n seat e))
 
-  -- a session that has seen nothing holds no pin
-  pub holds_none : (moment : D → Moment) (session : ℕ) (seat : Seat D) → IsNewSeat shared session seat → HoldsNone moment shared seat
-  holds_none moment session seat new =
-      subst (λ events. IsTrue (not (is_pinned (session_of seat) (history (ledger_of (start moment shared) events))))) (sym new.seen_none) refl
-
-  -- and its seat has done nothing but reap
+  -- the seat of a session that has seen nothing has done nothing but reap
   pub reaper_new : (session : ℕ) (seat : Seat D) → IsNewSeat shared session seat → IsReaper shared (session_of seat) seat
   reaper_new session seat new = record {
     of_store = new.of_store;
@@ -49,55 +39,55 @@ module _ {D : Type 0} (shared : Shared D) where
     none_own = subst (λ events. none_of owner_of (session_of seat) events ≡ true) (sym new.seen_none) refl;
   }
 
-module _ {D S K : Type 0} where
+module _ {A B C : Type 0} where
   -- one desk more is set up
-  pub seated_more : (seats : List (Seat D)) (all : List (Streams S K)) (desks desks' : List (Desk D S K)) (n : ℕ) (seat : Seat D) (own : Streams S K) →
+  pub seated_more : (seats : List A) (all : List B) (desks desks' : List (Desk A B C)) (n : ℕ) (seat : A) (own : B) →
       slice_get seats n ≡ Some seat → slice_get all n ≡ Some own → length desks ≡ n → AreSeated seats all desks → desks' ≡ desks ++ Waiting seat own ∷ [] →
       AreSeated seats all desks'
   seated_more seats all desks desks' n seat own at has len are grown =
-      let P : ℕ → Desk D S K → Type 0 = λ j desk. IsSeated (slice_get seats j) (slice_get all j) desk in
+      let P : ℕ → Desk A B C → Type 0 = λ j desk. IsSeated (slice_get seats j) (slice_get all j) desk in
       let here : P n (Waiting seat own) = (at, has) in
       subst (AreSeated seats all) (sym grown) (places_more P desks (Waiting seat own) are (subst (λ j. P j (Waiting seat own)) (sym len) here))
 
   -- one desk more is emptied
-  pub emptied_more : (desks : List (Desk D S K)) (n : ℕ) (seat : Seat D) (report : SessionReport S K) (seats seats' : List (Seat D))
-      (reports reports' : List (SessionReport S K)) → slice_get desks n ≡ Some (Done seat report) → length seats ≡ n → length reports ≡ n →
+  pub emptied_more : (desks : List (Desk A B C)) (n : ℕ) (seat : A) (report : C) (seats seats' : List A) (reports reports' : List C) →
+      slice_get desks n ≡ Some (Done seat report) → length seats ≡ n → length reports ≡ n →
       seats' ≡ seats ++ seat ∷ [] → reports' ≡ reports ++ report ∷ [] → AreEmptied desks seats reports → AreEmptied desks seats' reports'
   emptied_more desks n seat report seats seats' reports reports' at seat_count report_count seats_grown reports_grown are =
-      let P : ℕ → Seat D → Type 0 = λ j s. (r : SessionReport S K) × (slice_get desks j ≡ Some (Done s r)) in
-      let Q : ℕ → SessionReport S K → Type 0 = λ j r. (s : Seat D) × (slice_get desks j ≡ Some (Done s r)) in
+      let P : ℕ → A → Type 0 = λ j s. (r : C) × (slice_get desks j ≡ Some (Done s r)) in
+      let Q : ℕ → C → Type 0 = λ j r. (s : A) × (slice_get desks j ≡ Some (Done s r)) in
       let p : P n seat = (report, at) in
       let q : Q n report = (seat, at) in
-      let ps : (k : ℕ) (s : Seat D) → k < length (seats ++ seat ∷ []) → P k (get_or (seats ++ seat ∷ []) k s) =
+      let ps : (k : ℕ) (s : A) → k < length (seats ++ seat ∷ []) → P k (get_or (seats ++ seat ∷ []) k s) =
       places_more P seats seat are.of_seats (subst (λ j. P j seat) (sym seat_count) p) in
-      let qs : (k : ℕ) (r : SessionReport S K) → k < length (reports ++ report ∷ []) → Q k (get_or (reports ++ report ∷ []) k r) =
+      let qs : (k : ℕ) (r : C) → k < length (reports ++ report ∷ []) → Q k (get_or (reports ++ report ∷ []) k r) =
       places_more Q reports report are.of_reports (subst (λ j. Q j report) (sym report_count) q) in record {
-        of_seats = subst (λ l. (k : ℕ) (s : Seat D) → k < length l → P k (get_or l k s)) (sym seats_grown) ps;
-        of_reports = subst (λ l. (k : ℕ) (r : SessionReport S K) → k < length l → Q k (get_or l k r)) (sym reports_grown) qs;
+        of_seats = subst (λ l. (k : ℕ) (s : A) → k < length l → P k (get_or l k s)) (sym seats_grown) ps;
+        of_reports = subst (λ l. (k : ℕ) (r : C) → k < length l → Q k (get_or l k r)) (sym reports_grown) qs;
       }
 
-  pub emptied_none : (desks : List (Desk D S K)) → AreEmptied desks [] []
+  pub emptied_none : (desks : List (Desk A B C)) → AreEmptied desks [] []
   emptied_none desks = record { of_seats = λ k s near. absurd (omega arith); of_reports = λ k r near. absurd (omega arith) }
 
-  pub ended_at : (desks : List (Desk D S K)) (n : ℕ) (desk : Desk D S K) → All (λ d. HasEnded d) desks → slice_get desks n ≡ Some desk → HasEnded desk
+  pub ended_at : (desks : List (Desk A B C)) (n : ℕ) (desk : Desk A B C) → All (λ d. HasEnded d) desks → slice_get desks n ≡ Some desk → HasEnded desk
   ended_at desks n desk ended e = subst (λ d. HasEnded d) (get_or_from_slice_get desks n desk desk e) (ended n desk (slice_get_within desks n desk e))
 
   -- what was taken is the desk of that place
-  pub desk_at : (desks : List (Desk D S K)) (n : ℕ) (desk other : Desk D S K) → slice_get desks n ≡ Some desk → desk ≡ other → slice_get desks n ≡ Some other
+  pub desk_at : (desks : List (Desk A B C)) (n : ℕ) (desk other : Desk A B C) → slice_get desks n ≡ Some desk → desk ≡ other → slice_get desks n ≡ Some other
   desk_at desks n desk other e is = e ∙ ap (λ d. Some d) is
 
 module _ {D S K : Type 0} (shared : Shared D) where
-  ready_one : (seats : List (Seat D)) (all : List (Streams S K)) (k : ℕ) (desk : Desk D S K) → AreNewSeats shared seats →
+  ready_one : (seats : List (Seat D)) (all : List (Streams S K)) (k : ℕ) (desk : SessionDesk D S K) → AreNewSeats shared seats →
       IsSeated (slice_get seats k) (slice_get all k) desk → IsReady shared k (slice_get all k) desk
   ready_one seats all k (Waiting seat own) new seated = (seated.1, new_at shared seats k seat new seated.0)
   ready_one seats all k Working new seated = absurd seated
   ready_one seats all k (Done seat report) new seated = absurd seated
 
-  pub all_ready : (seats : List (Seat D)) (all : List (Streams S K)) (desks : List (Desk D S K)) → AreNewSeats shared seats → AreSeated seats all desks →
+  pub all_ready : (seats : List (Seat D)) (all : List (Streams S K)) (desks : List (SessionDesk D S K)) → AreNewSeats shared seats → AreSeated seats all desks →
       AreReady shared all desks
   all_ready seats all desks new are k desk near = ready_one seats all k (get_or desks k desk) new (are k desk near)
 
-  waiting_one : (all : List (Streams S K)) (k : ℕ) (desk : Desk D S K) → All (λ own. StandsAfter [] own.splitter) all → IsReady shared k (slice_get all k) desk →
+  waiting_one : (all : List (Streams S K)) (k : ℕ) (desk : SessionDesk D S K) → All (λ own. StandsAfter [] own.splitter) all → IsReady shared k (slice_get all k) desk →
       IsWaiting shared desk
   waiting_one all k (Waiting seat own) begun ready = (
     subst (λ j. IsNewSeat shared j seat) (sym ready.1.session_is) ready.1,
@@ -106,12 +96,12 @@ module _ {D S K : Type 0} (shared : Shared D) where
   waiting_one all k Working begun ready = absurd ready
   waiting_one all k (Done seat report) begun ready = absurd ready
 
-  pub all_waiting : (all : List (Streams S K)) (desks : List (Desk D S K)) → All (λ own. StandsAfter [] own.splitter) all → AreReady shared all desks →
+  pub all_waiting : (all : List (Streams S K)) (desks : List (SessionDesk D S K)) → All (λ own. StandsAfter [] own.splitter) all → AreReady shared all desks →
       All (λ desk. IsWaiting shared desk) desks
   all_waiting all desks begun are k desk near = waiting_one all k (get_or desks k desk) begun (are k desk near)
 
 module _ {D S K : Type 0} (style : Style) (moment : D → Moment) (source_of : S → SourceState) (sink_of : K → SinkState) (shared : Shared D) where
-  done_one : (k : ℕ) (given : Option (Streams S K)) (old new : Desk D S K) → IsReady shared k given old → HasWorked style moment source_of sink_of shared old new →
+  done_one : (k : ℕ) (given : Option (Streams S K)) (old new : SessionDesk D S K) → IsReady shared k given old → HasWorked style moment source_of sink_of shared old new →
       IsDone style moment source_of sink_of shared k given new
   done_one k given (Waiting seat own) (Done after report) ready worked =
       (own, ready.0, subst (λ j. HasServed style moment source_of sink_of shared j own after report) ready.1.session_is worked)
@@ -120,39 +110,28 @@ module _ {D S K : Type 0} (style : Style) (moment : D → Moment) (source_of : S
   done_one k given Working new ready worked = absurd ready
   done_one k given (Done seat report) new ready worked = absurd ready
 
-  pub all_done : (all : List (Streams S K)) (old new : List (Desk D S K)) → AreReady shared all old → AllWorked style moment source_of sink_of shared old new →
-      length new ≡ length old → AreDone style moment source_of sink_of shared all new
-  all_done all old new are worked len k desk near =
-      let low : k < length old = omega arith in
-      done_one k (slice_get all k) (get_or old k desk) (get_or new k desk) (are k desk low) (worked k desk low)
+  pub all_done : (all : List (Streams S K)) (old new : List (SessionDesk D S K)) → AreReady shared all old → AllWorked style moment source_of sink_of shared old new →
+      AreDone style moment source_of sink_of shared all new
+  all_done all old new are worked k desk near =
+      let low : k < length old = subst (λ n. k < n) worked.count near in
+      done_one k (slice_get all k) (get_or old k desk) (get_or new k desk) (are k desk low) (worked.each k desk low)
 
   -- the sessions of new seats have worked, each at its desk
-  pub done_by : (seats : List (Seat D)) (all : List (Streams S K)) (old new : List (Desk D S K)) → AreNewSeats shared seats → AreSeated seats all old →
-      AllWorked style moment source_of sink_of shared old new → length new ≡ length old → AreDone style moment source_of sink_of shared all new
-  done_by seats all old new fresh seated worked len = all_done all old new (all_ready shared seats all old fresh seated) worked len
+  pub done_by : (seats : List (Seat D)) (all : List (Streams S K)) (old new : List (SessionDesk D S K)) → AreNewSeats shared seats → AreSeated seats all old →
+      AllWorked style moment source_of sink_of shared old new → AreDone style moment source_of sink_of shared all new
+  done_by seats all old new fresh seated worked = all_done all old new (all_ready shared seats all old fresh seated) worked
 
-  -- what for_each_mut did to a vector, whose items it was lent
-  pub all_worked : (old was new : List (Desk D S K)) (count : ℕ) → was ≡ old → length new ≡ length was → count ≡ length old →
-      ((k : ℕ) (desk : Desk D S K) → k < length was → HasWorked style moment source_of sink_of shared (get_or was k desk) (get_or new k desk)) →
-      AllWorked style moment source_of sink_of shared old (take count (new ++ drop (length new) old))
-  all_worked old was new count same len full each =
-      let whole : count ≡ length new = full ∙ ap length (sym same) ∙ sym len in
-      let left : take count (new ++ drop (length new) old) ≡ new =
-      ap (λ n. take n (new ++ drop (length new) old)) whole ∙ take_at new (drop (length new) old) (length new) refl in
-      subst (λ l. AllWorked style moment source_of sink_of shared old l) (sym left)
-      (subst (λ l. AllWorked style moment source_of sink_of shared l new) same each)
-
-  pub done_at : (all : List (Streams S K)) (desks : List (Desk D S K)) (n : ℕ) (desk : Desk D S K) → AreDone style moment source_of sink_of shared all desks →
+  pub done_at : (all : List (Streams S K)) (desks : List (SessionDesk D S K)) (n : ℕ) (desk : SessionDesk D S K) → AreDone style moment source_of sink_of shared all desks →
       slice_get desks n ≡ Some desk → IsDone style moment source_of sink_of shared n (slice_get all n) desk
   done_at all desks n desk are e =
       subst (IsDone style moment source_of sink_of shared n (slice_get all n)) (get_or_from_slice_get desks n desk desk e) (are n desk (slice_get_within desks n desk e))
 
-  ended_one : (k : ℕ) (given : Option (Streams S K)) (desk : Desk D S K) → IsDone style moment source_of sink_of shared k given desk → HasEnded desk
+  ended_one : (k : ℕ) (given : Option (Streams S K)) (desk : SessionDesk D S K) → IsDone style moment source_of sink_of shared k given desk → HasEnded desk
   ended_one k given (Waiting seat own) done = done
   ended_one k given Working done = done
   ended_one k given (Done seat report) done = tt
 
-  pub all_ended : (all : List (Streams S K)) (desks : List (Desk D S K)) → AreDone style moment source_of sink_of shared all desks → All (λ desk. HasEnded desk) desks
+  pub all_ended : (all : List (Streams S K)) (desks : List (SessionDesk D S K)) → AreDone style moment source_of sink_of shared all desks → All (λ desk. HasEnded desk) desks
   all_ended all desks are k desk near = ended_one k (slice_get all k) (get_or desks k desk) (are k desk near)
 
   session_one : (k : ℕ) (own : Streams S K) (seat : Seat D) (report : SessionReport S K) (events : List Event) →
@@ -166,19 +145,19 @@ module _ {D S K : Type 0} (style : Style) (moment : D → Moment) (source_of : S
   }
 
   -- the seats of desks that are done
-  pub seats_idle : (all : List (Streams S K)) (desks : List (Desk D S K)) (seats : List (Seat D)) (reports : List (SessionReport S K)) →
+  pub seats_idle : (all : List (Streams S K)) (desks : List (SessionDesk D S K)) (seats : List (Seat D)) (reports : List (SessionReport S K)) →
       AreDone style moment source_of sink_of shared all desks → AreEmptied desks seats reports → AreIdleSeats shared seats
   seats_idle all desks seats reports are emptied k seat near =
       let at = emptied.of_seats k seat near in
       let done : IsDone style moment source_of sink_of shared k (slice_get all k) (Done (get_or seats k seat) at.0) =
       done_at all desks k (Done (get_or seats k seat) at.0) are at.1 in (done.2.of_store, done.2.idle)
 
-  same_seat : (place : Option (Desk D S K)) (seat seat' : Seat D) (report report' : SessionReport S K) → place ≡ Some (Done seat report) →
+  same_seat : (place : Option (SessionDesk D S K)) (seat seat' : Seat D) (report report' : SessionReport S K) → place ≡ Some (Done seat report) →
       place ≡ Some (Done seat' report') → seat' ≡ seat
   same_seat place seat seat' report report' a b = cc
 
   -- and what their sessions did
-  pub all_served : (all : List (Streams S K)) (desks : List (Desk D S K)) (seats : List (Seat D)) (reports : List (SessionReport S K)) (events : List Event) →
+  pub all_served : (all : List (Streams S K)) (desks : List (SessionDesk D S K)) (seats : List (Seat D)) (reports : List (SessionReport S K)) (events : List Event) →
       AreDone style moment source_of sink_of shared all desks → AreEmptied desks seats reports → length seats ≡ length all → length reports ≡ length all →
       ExtendEach seats events → AreSessionsOf style moment source_of sink_of (start moment shared) all reports events
   all_served all desks seats reports events are emptied seat_count report_count extend k own report near =

@@ -1,9 +1,8 @@
 //! The reaper: a thread beside the sessions, which frees the pages that nobody can name.
-ghost use Rattle.std.specs.Prelude.{◌≡◌, vec_len};
 ghost use Rattle.snapshot_manager.specs.Seats.{session_of};
 ghost use Rattle.session_threads.specs.Inner.Desks.{AllWorked, CanWork, IsReaper};
 
-use crate::desk::{Desk, work_all};
+use crate::desk::{SessionDesk, work_all};
 use afl_outside::{Disk, Gate, Sink, Source};
 use afl_session::Options;
 use snapshot_manager::{Seat, Shared};
@@ -48,23 +47,21 @@ pub(crate) fn work_beside<
     shared: &Shared<D>,
     options: &Options,
     gate: &G,
-    desks: Vec<Desk<D, S, K>>,
+    desks: Vec<SessionDesk<D, S, K>>,
     own: Seat<D>,
-) -> (Vec<Desk<D, S, K>>, Seat<D>)
+) -> (Vec<SessionDesk<D, S, K>>, Seat<D>)
     requires desks { CanWork shared.now options.now.workers desks.items }
     requires own { IsReaper shared.now (session_of own) own }
     ensures desks { AllWorked options.now.style D.moment S.state K.state shared.now desks.items result.0.items }
-    ensures count { vec_len result.0 ≡ vec_len desks }
     ensures own { IsReaper shared.now (session_of own) result.1 }
 {
     let reaper = move || -> Seat<D>
         requires { IsReaper shared.now (session_of own) own }
         ensures { IsReaper shared.entry.now (session_of own) result }
     { keep(rt, shared, own) };
-    let sessions = move || -> Vec<Desk<D, S, K>>
+    let sessions = move || -> Vec<SessionDesk<D, S, K>>
         requires { CanWork shared.now options.now.workers desks.items }
-        ensures desks { AllWorked options.entry.now.style D.moment S.state K.state shared.entry.now desks.items result.items }
-        ensures count { vec_len result ≡ vec_len desks }
+        ensures { AllWorked options.entry.now.style D.moment S.state K.state shared.entry.now desks.items result.items }
     { work_all(rt, alloc, shared, options, gate, desks) };
     // Where no thread can be made `join` runs its second closure first, and the reaper then finds the bell closed.
     let (own, desks) = join(rt, reaper, sessions);

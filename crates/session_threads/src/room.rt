@@ -5,22 +5,21 @@ ghost use Rattle.session_threads.specs.Inner.Rooms.{HasRoom};
 
 use crate::desk::Desk;
 use afl_outside::Disk;
-use afl_session::SessionReport;
 use cell_values::{List, Memory};
 use snapshot_manager::{Seat, Shared, Store};
 use std::alloc::Global;
 
 /// Lists with room for what the sessions of a run hand out and give back.
 #[derive(Drop)]
-pub(crate) struct Room<D: Disk, S, K> {
-    pub(crate) desks: Vec<Desk<D, S, K>>,
-    pub(crate) seats: Vec<Seat<D>>,
-    pub(crate) reports: Vec<SessionReport<S, K>>,
+pub(crate) struct Room<P, W, M> {
+    pub(crate) desks: Vec<Desk<P, W, M>>,
+    pub(crate) seats: Vec<P>,
+    pub(crate) reports: Vec<M>,
 }
 
-impl<D: Disk + Drop, S: Drop, K: Drop> Room<D, S, K> {
+impl<P: Drop, W: Drop, M: Drop> Room<P, W, M> {
     /// Room for so many sessions, and for the reaper's seat.
-    pub(crate) fn new(alloc: Global, sessions: usize) -> Result<Room<D, S, K>, Memory>
+    pub(crate) fn new(alloc: Global, sessions: usize) -> Result<Room<P, W, M>, Memory>
         requires { sessions ≤ 16 }
         ensures { IfOk result (HasRoom sessions) }
     {
@@ -33,11 +32,11 @@ impl<D: Disk + Drop, S: Drop, K: Drop> Room<D, S, K> {
 }
 
 /// Shares a store in which nothing was done yet among so many sessions, with the room for their run. Without memory the store comes back.
-pub(crate) fn opened<D: Disk + Drop, S: Drop, K: Drop>(
+pub(crate) fn opened<D: Disk + Drop, W: Drop, M: Drop>(
     alloc: Global,
     store: Store<D>,
     sessions: usize,
-) -> Result<(Shared<D>, List<Seat<D>>, Room<D, S, K>), (Memory, Store<D>)>
+) -> Result<(Shared<D>, List<Seat<D>>, Room<Seat<D>, W, M>), (Memory, Store<D>)>
     requires sessions { (1 ≤ sessions) × (sessions ≤ 16) }
     requires entries { store.ledger.entries ≡ [] }
     requires notes { store.ledger.notes ≡ [] }

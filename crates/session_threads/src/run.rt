@@ -1,5 +1,5 @@
 //! All sessions, from their streams to their reports.
-ghost use Rattle.std.specs.Prelude.{◌≡◌, ◌≤◌, ◌+◌, [], length, slice_get, vec_len, vec_capacity, IfErr, IfOk, All, List, Some};
+ghost use Rattle.std.specs.Prelude.{◌≡◌, ◌≤◌, ◌+◌, [], length, slice_get, vec_capacity, IfErr, IfOk, All, List, Some};
 ghost use Rattle.afl_lexer.specs.Inner.Standing.{StandsAfter};
 ghost use Rattle.store_state.specs.At.{standing};
 ghost use Rattle.store_state.specs.Events.{events};
@@ -11,7 +11,7 @@ ghost use Rattle.session_threads.specs.Inner.Desks.{AreDone, AreEmptied, AreSeat
 ghost use Rattle.session_threads.specs.Inner.Rooms.{HasRoom};
 ghost use Rattle.run_opening.specs.declared.reports.reports.Streams.{Streams};
 
-use crate::desk::Desk;
+use crate::desk::{Desk, SessionDesk};
 use crate::reaper::{reap_once, work_beside};
 use crate::room::{Room, opened};
 use afl_outside::{Disk, Gate, Sink, Source};
@@ -74,7 +74,7 @@ fn run_shared<
     streams: List<Streams<S, K>>,
     options: &Options,
     gate: &G,
-    room: Room<D, S, K>,
+    room: Room<Seat<D>, Streams<S, K>, SessionReport<S, K>>,
 ) -> (Store<D>, List<SessionReport<S, K>>)
     requires seats { AreNewSeats shared seats }
     requires count { (length seats ≡ length streams + 1) × (seats_in_all shared ≡ length streams + 1) }
@@ -98,14 +98,14 @@ fn run_shared<
 }
 
 // A desk for each session, with the seat of its number and the streams of its place. The last seat is left over.
-fn seated<D: Disk + Drop, S: Drop, K: Drop>(
-    mut seats: List<Seat<D>>,
-    mut streams: List<Streams<S, K>>,
-    mut room: Vec<Desk<D, S, K>>,
-) -> (Vec<Desk<D, S, K>>, Seat<D>)
+fn seated<P: Drop, W: Drop, M: Drop>(
+    mut seats: List<P>,
+    mut streams: List<W>,
+    mut room: Vec<Desk<P, W, M>>,
+) -> (Vec<Desk<P, W, M>>, P)
     requires count { length seats ≡ length streams + 1 }
     requires room { (room.items ≡ []) × (length streams ≤ vec_capacity room) }
-    ensures count { vec_len result.0 ≡ length streams }
+    ensures count { length result.0.items ≡ length streams }
     ensures desks { AreSeated seats streams result.0.items }
     ensures own { slice_get seats (length streams) ≡ Some result.1 }
 {
@@ -126,7 +126,7 @@ fn seated<D: Disk + Drop, S: Drop, K: Drop>(
 fn gathered<D: Disk + Drop, S: Source + Drop, K: Sink + Drop>(
     shared: Shared<D>,
     own: Seat<D>,
-    desks: List<Desk<D, S, K>>,
+    desks: List<SessionDesk<D, S, K>>,
     seats: Vec<Seat<D>>,
     reports: Vec<SessionReport<S, K>>,
 ) -> (Store<D>, List<SessionReport<S, K>>)
@@ -148,11 +148,11 @@ fn gathered<D: Disk + Drop, S: Source + Drop, K: Sink + Drop>(
 }
 
 // The seats and the reports of sessions that have ended, in order.
-fn emptied<D: Disk + Drop, S: Drop, K: Drop>(
-    mut desks: List<Desk<D, S, K>>,
-    mut seats: Vec<Seat<D>>,
-    mut reports: Vec<SessionReport<S, K>>,
-) -> (Vec<Seat<D>>, List<SessionReport<S, K>>)
+fn emptied<P: Drop, W: Drop, M: Drop>(
+    mut desks: List<Desk<P, W, M>>,
+    mut seats: Vec<P>,
+    mut reports: Vec<M>,
+) -> (Vec<P>, List<M>)
     requires ended { All (λ desk. HasEnded desk) desks }
     requires seats { (seats.items ≡ []) × (length desks + 1 ≤ vec_capacity seats) }
     requires reports { (reports.items ≡ []) × (length desks ≤ vec_capacity reports) }

@@ -13,33 +13,36 @@ use Rattle.run_opening.specs.declared.reports.reports.SessionReport.{SessionRepo
 use Rattle.afl_session.specs.Marked.{IsMarked}
 use Rattle.afl_session.specs.Session.{Serves}
 use Rattle.afl_session.specs.Style.{Style}
+use Rattle.session_threads.specs.Inner.Each.{ChangesAll}
 use Rattle.session_threads.specs.declared.desk.Desk.{Desk}
 use Rattle.session_threads.specs.declared.desk.Desk.TheVariants.{Waiting, Working, Done}
 use Rattle.run_opening.specs.declared.reports.reports.Streams.{Streams}
 
-module _ {D S K : Type 0} where
+module _ {P W M : Type 0} where
   -- a desk with this seat and these streams, whose session waits
-  abbrev pub IsSeated : Option (Seat D) → Option (Streams S K) → Desk D S K → Type 0
+  abbrev pub IsSeated : Option P → Option W → Desk P W M → Type 0
   IsSeated place given (Waiting seat own) = (place ≡ Some seat) × (given ≡ Some own)
   IsSeated place given Working = ⊥
   IsSeated place given (Done seat report) = ⊥
 
   -- each with the seat and the streams of its place
-  abbrev pub AreSeated : List (Seat D) → List (Streams S K) → List (Desk D S K) → Type 0
-  AreSeated seats all desks = (k : ℕ) (desk : Desk D S K) → k < length desks → IsSeated (slice_get seats k) (slice_get all k) (slice_index_or desks k desk)
+  abbrev pub AreSeated : List P → List W → List (Desk P W M) → Type 0
+  AreSeated seats all desks = (k : ℕ) (desk : Desk P W M) → k < length desks → IsSeated (slice_get seats k) (slice_get all k) (slice_index_or desks k desk)
 
   -- a session has ended
-  abbrev pub HasEnded : Desk D S K → Type 0
+  abbrev pub HasEnded : Desk P W M → Type 0
   HasEnded (Waiting seat own) = ⊥
   HasEnded Working = ⊥
   HasEnded (Done seat report) = Unit {0}
 
   -- these seats and reports are those of the desks, place by place
-  pub record AreEmptied (desks : List (Desk D S K)) (seats : List (Seat D)) (reports : List (SessionReport S K)) : Type 0 where
-    pub of_seats : (k : ℕ) (seat : Seat D) → k < length seats
-        → (report : SessionReport S K) × (slice_get desks k ≡ Some (Done (slice_index_or seats k seat) report))
-    pub of_reports : (k : ℕ) (report : SessionReport S K) → k < length reports
-        → (seat : Seat D) × (slice_get desks k ≡ Some (Done seat (slice_index_or reports k report)))
+  pub record AreEmptied (desks : List (Desk P W M)) (seats : List P) (reports : List M) : Type 0 where
+    pub of_seats : (k : ℕ) (seat : P) → k < length seats → (report : M) × (slice_get desks k ≡ Some (Done (slice_index_or seats k seat) report))
+    pub of_reports : (k : ℕ) (report : M) → k < length reports → (seat : P) × (slice_get desks k ≡ Some (Done seat (slice_index_or reports k report)))
+
+-- the desk of a session
+abbrev pub SessionDesk : Type 0 → Type 0 → Type 0 → Type 0
+SessionDesk D S K = Desk (Seat D) (Streams S K) (SessionReport S K)
 
 module _ {D : Type 0} (shared : Shared D) where
   -- a seat that has done nothing but reap
@@ -51,32 +54,32 @@ module _ {D : Type 0} (shared : Shared D) where
 
 module _ {D S K : Type 0} (shared : Shared D) where
   -- a session waits for its thread: it has done nothing yet, and its script is cut from its start
-  abbrev pub IsWaiting : Desk D S K → Type 0
+  abbrev pub IsWaiting : SessionDesk D S K → Type 0
   IsWaiting (Waiting seat own) = IsNewSeat shared (session_of seat) seat × StandsAfter [] own.splitter
   IsWaiting Working = ⊥
   IsWaiting (Done seat report) = ⊥
 
   -- what threads of so many workers may do: each of these sessions waits
-  pub record CanWork (workers : ℕ) (desks : List (Desk D S K)) : Type 0 where
+  pub record CanWork (workers : ℕ) (desks : List (SessionDesk D S K)) : Type 0 where
     pub wait : All (λ desk. IsWaiting desk) desks
     pub some : 1 ≤ workers
     pub few : workers ≤ 64
 
   -- a thread of so many workers may do the work of this session
-  pub record CanBegin (workers : ℕ) (desk : Desk D S K) : Type 0 where
+  pub record CanBegin (workers : ℕ) (desk : SessionDesk D S K) : Type 0 where
     pub waits : IsWaiting desk
     pub some : 1 ≤ workers
     pub few : workers ≤ 64
 
   -- the session of this number waits, with these streams
-  abbrev pub IsReady : ℕ → Option (Streams S K) → Desk D S K → Type 0
+  abbrev pub IsReady : ℕ → Option (Streams S K) → SessionDesk D S K → Type 0
   IsReady session given (Waiting seat own) = (given ≡ Some own) × IsNewSeat shared session seat
   IsReady session given Working = ⊥
   IsReady session given (Done seat report) = ⊥
 
   -- the desks of all sessions, in order
-  abbrev pub AreReady : List (Streams S K) → List (Desk D S K) → Type 0
-  AreReady all desks = (k : ℕ) (desk : Desk D S K) → k < length desks → IsReady k (slice_get all k) (slice_index_or desks k desk)
+  abbrev pub AreReady : List (Streams S K) → List (SessionDesk D S K) → Type 0
+  AreReady all desks = (k : ℕ) (desk : SessionDesk D S K) → k < length desks → IsReady k (slice_get all k) (slice_index_or desks k desk)
 
 module _ {D S K : Type 0} (style : Style) (moment : D → Moment) (source_of : S → SourceState) (sink_of : K → SinkState) (shared : Shared D) where
   -- a session has served its streams
@@ -88,18 +91,18 @@ module _ {D S K : Type 0} (style : Style) (moment : D → Moment) (source_of : S
         (sink_of streams.sink) (sink_of report.sink) report.marks report.end
 
   -- what the work of a session makes of its desk
-  abbrev pub HasWorked : Desk D S K → Desk D S K → Type 0
+  abbrev pub HasWorked : SessionDesk D S K → SessionDesk D S K → Type 0
   HasWorked (Waiting seat own) (Done after report) = HasServed (session_of seat) own after report
   HasWorked _ _ = ⊥
 
   -- the session of this number has served these streams
-  abbrev pub IsDone : ℕ → Option (Streams S K) → Desk D S K → Type 0
+  abbrev pub IsDone : ℕ → Option (Streams S K) → SessionDesk D S K → Type 0
   IsDone session given (Waiting seat own) = ⊥
   IsDone session given Working = ⊥
   IsDone session given (Done seat report) = (own : Streams S K) × (given ≡ Some own) × HasServed session own seat report
 
-  abbrev pub AllWorked : List (Desk D S K) → List (Desk D S K) → Type 0
-  AllWorked old new = (k : ℕ) (desk : Desk D S K) → k < length old → HasWorked (slice_index_or old k desk) (slice_index_or new k desk)
+  abbrev pub AllWorked : List (SessionDesk D S K) → List (SessionDesk D S K) → Type 0
+  AllWorked old new = ChangesAll HasWorked old new
 
-  abbrev pub AreDone : List (Streams S K) → List (Desk D S K) → Type 0
-  AreDone all desks = (k : ℕ) (desk : Desk D S K) → k < length desks → IsDone k (slice_get all k) (slice_index_or desks k desk)
+  abbrev pub AreDone : List (Streams S K) → List (SessionDesk D S K) → Type 0
+  AreDone all desks = (k : ℕ) (desk : SessionDesk D S K) → k < length desks → IsDone k (slice_get all k) (slice_index_or desks k desk)

@@ -3,7 +3,7 @@ use Rattle.std.specs.Prelude.{◌≡◌, ◌≤◌, ◌+◌, ℕ, [], vec_capaci
 use Rattle.session_threads.specs.declared.room.Room.{Room}
 
 -- its lists are empty, and have room for so many sessions
-pub record HasRoom {D S K : Type 0} (sessions : ℕ) (room : Room D S K) : Type 0 where
+pub record HasRoom {P W M : Type 0} (sessions : ℕ) (room : Room P W M) : Type 0 where
   pub no_desks : room.desks.items ≡ []
   pub no_seats : room.seats.items ≡ []
   pub no_reports : room.reports.items ≡ []

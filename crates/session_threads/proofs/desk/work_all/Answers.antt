@@ -1,40 +1,13 @@
-use denote.Exit.{no}
-use denote.Param.Send.{arg_send, arg_sync, param_send, param_sync, shr_sync}
-use Rattle.std.proofs.Common.{rules, All, get_or, subst, sym}
-use Rattle.std.proofs.alloc.Global.TheSendSync as global_way
-use Rattle.session_threads.specs.Inner.Desks.{HasWorked, IsWaiting}
-use Rattle.session_threads.proofs.Crossing.{desk_send, five_sync, options_sync, shared_sync}
-use Rattle.session_threads.proofs.Desks.{all_worked}
+use Rattle.std.proofs.Common.{rules, subst, sym}
+use Rattle.session_threads.specs.Inner.Desks.{CanWork, HasWorked}
+use Rattle.session_threads.proofs.Changing.{changed_whole}
 use Rattle.session_threads.proofs.desk.work_all.Goals as goal
 
-pub for_each_mut-requires-send-T : goal.for_each_mut-requires-send-T
-for_each_mut-requires-send-T g c κs within = let t = c.type_bounds in param_send 1 _ (arg_send _ no _ (desk_send _ _ _ _ t.send-D t.send-S t.send-K))
+pub returns : goal.returns
+returns g c =
+    changed_whole (HasWorked c.args.options.now.style g.D.Disk.moment g.S.Source.state g.K.Sink.state c.args.shared.now) c.args.desks.items c.as_mut_slice.result.now
+    c.work_each.new.desks c.args.desks.len c.as_mut_slice.ensures.value (search rules) c.work_each.ensures
 
-pub for_each_mut-requires-sync-F : goal.for_each_mut-requires-sync-F
-for_each_mut-requires-sync-F g c κs within =
-    let t = c.type_bounds in
-    param_sync 2 _ (arg_sync _ no _ (five_sync _ _ _ _ _ _ (shr_sync _ _ _ t.sync-R) (shr_sync _ _ _ global_way.the_sync) (shr_sync _ _ _ (shared_sync _ _ t.send-D))
-    (shr_sync _ _ _ options_sync) (shr_sync _ _ _ t.sync-G)))
-
-pub for_each_mut-requires-clause-accepts : goal.for_each_mut-requires-clause-accepts
-for_each_mut-requires-clause-accepts g c κs within =
-    let t = c.type_bounds in
-    let waiting = subst (λ desks. All (λ desk. IsWaiting c.args.shared.now desk) desks) (sym c.as_mut_slice.ensures.value) c.requires.wait in
-    λ i p near is. (
-      record { waits = subst (IsWaiting c.args.shared.now) (sym is) (waiting i p.now near); some = c.requires.some; few = c.requires.few },
-      (
-        param_send _ _ (arg_send _ no _ t.send-D),
-        param_send _ _ (arg_send _ no _ t.send-S),
-        param_send _ _ (arg_send _ no _ t.send-K),
-        param_sync _ _ (arg_sync _ no _ t.sync-G),
-        param_sync _ _ (arg_sync _ no _ t.sync-R),
-      ),
-    )
-
-pub returns-clause-desks : goal.returns-clause-desks
-returns-clause-desks g c =
-    all_worked c.args.options.now.style g.D.Disk.moment g.S.Source.state g.K.Sink.state c.args.shared.now c.args.desks.items c.as_mut_slice.result.now c.for_each_mut.new.s c.args.desks.len
-    c.as_mut_slice.ensures.value (search rules) (search rules)
-    (λ k desk near. let change = (c.for_each_mut.ensures k desk near).1 in
-    subst (λ x. HasWorked c.args.options.now.style g.D.Disk.moment g.S.Source.state g.K.Sink.state c.args.shared.now x (get_or c.for_each_mut.new.s k desk)) change.argument_is
-    (subst (λ y. HasWorked c.args.options.now.style g.D.Disk.moment g.S.Source.state g.K.Sink.state c.args.shared.now change.argument.now y) change.left change.call))
+pub work_each-requires-after_bounds : goal.work_each-requires-after_bounds
+work_each-requires-after_bounds g c κs within =
+    subst (CanWork c.args.shared.now c.args.options.now.workers) (sym c.as_mut_slice.ensures.value) c.requires

@@ -12,4 +12,4 @@ pub join-own-requires-send-A : goal.join-own-requires-send-A
 join-own-requires-send-A g c κs within = param_send 3 _ (arg_send _ no _ (seat_send _ _ c.type_bounds.send-D))
 
 pub returns-clause-desks : goal.returns-clause-desks
-returns-clause-desks g c = c.join-own.ensures.second.0
+returns-clause-desks g c = c.join-own.ensures.second

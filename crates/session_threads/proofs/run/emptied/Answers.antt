@@ -1,4 +1,4 @@
-use Rattle.std.proofs.Common.{◌≡◌, ◌∙◌, ◌≤◌, ◌+◌, [], ap, length, refl, sym, subst, arith}
+use Rattle.std.proofs.Common.{◌≡◌, ◌∙◌, ◌≤◌, ◌+◌, [], ap, length, refl, vec_capacity, sym, subst, arith}
 use Rattle.turn_lock.proofs.Gathering.{longer_by_one}
 use Rattle.snapshot_manager.proofs.Seating.{first_of_rest, less_one}
 use Rattle.session_threads.specs.Inner.Desks.{AreEmptied}
@@ -26,8 +26,8 @@ loop-preserved g c =
       desks = less_one c.args.desks c.loop.desks c.remove.new.self c.loop.counter i.desks c.remove.ensures.rest;
       seats = longer_by_one c.loop.seats.items _ c.push_reserved.new.self.items c.loop.counter c.push_reserved.ensures.items i.seats;
       reports = longer_by_one c.loop.reports.items _ c.push_reserved-in-loop.new.self.items c.loop.counter c.push_reserved-in-loop.ensures.items i.reports;
-      seat_room = subst (λ n. length c.args.desks + 1 ≤ n) (sym c.push_reserved.ensures.capacity) i.seat_room;
-      report_room = subst (λ n. length c.args.desks ≤ n) (sym c.push_reserved-in-loop.ensures.capacity) i.report_room;
+      seat_room = subst (λ n. length c.args.desks + 1 ≤ n) {y = vec_capacity c.push_reserved.new.self} (sym c.push_reserved.ensures.capacity) i.seat_room;
+      report_room = subst (λ n. length c.args.desks ≤ n) {y = vec_capacity c.push_reserved-in-loop.new.self} (sym c.push_reserved-in-loop.ensures.capacity) i.report_room;
       emptied = emptied_more c.args.desks c.loop.counter c.into_done-seat.result.0 c.into_done-seat.result.1 c.loop.seats.items c.push_reserved.new.self.items c.loop.reports.items
           c.push_reserved-in-loop.new.self.items (desk_at c.args.desks c.loop.counter c.remove.result _ at c.into_done-seat.ensures) i.seats i.reports
           c.push_reserved.ensures.items c.push_reserved-in-loop.ensures.items i.emptied;

@@ -1,4 +1,4 @@
-use Rattle.std.proofs.Common.{◌≡◌, ◌≤◌, ap, length, refl, slice_get, Some, sym, subst, arith}
+use Rattle.std.proofs.Common.{◌≡◌, ◌≤◌, ap, length, refl, slice_get, vec_capacity, Some, sym, subst, arith}
 use Rattle.turn_lock.proofs.Gathering.{longer_by_one}
 use Rattle.snapshot_manager.proofs.Seating.{first_of_rest, less_one}
 use Rattle.session_threads.specs.Inner.Desks.{AreSeated}
@@ -23,7 +23,7 @@ loop-preserved g c =
       seats = less_one c.args.seats c.loop.seats c.remove-seat.new.self c.loop.counter i.seats c.remove-seat.ensures.rest;
       streams = less_one c.args.streams c.loop.streams c.remove-first.new.self c.loop.counter i.streams c.remove-first.ensures.rest;
       count = longer_by_one c.loop.room.items _ c.push_reserved.new.self.items c.loop.counter c.push_reserved.ensures.items i.count;
-      room = subst (λ n. length c.args.streams ≤ n) (sym c.push_reserved.ensures.capacity) i.room;
+      room = subst (λ n. length c.args.streams ≤ n) {y = vec_capacity c.push_reserved.new.self} (sym c.push_reserved.ensures.capacity) i.room;
       seated = seated_more c.args.seats c.args.streams c.loop.room.items c.push_reserved.new.self.items c.loop.counter c.remove-seat.result c.remove-first.result
           (first_of_rest c.args.seats c.loop.seats c.loop.counter c.remove-seat.result i.seats c.remove-seat.ensures.item)
           (first_of_rest c.args.streams c.loop.streams c.loop.counter c.remove-first.result i.streams c.remove-first.ensures.item)

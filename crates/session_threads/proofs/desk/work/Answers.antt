@@ -1,6 +1,6 @@
 use Rattle.std.proofs.Common.{◌∙◌, sym, subst}
 use Rattle.session_threads.specs.Inner.Desks.{IsWaiting}
-use Rattle.session_threads.proofs.desk.Desk.work.Goals as goal
+use Rattle.session_threads.proofs.desk.work.Goals as goal
 
 pub serve-report-requires-clause-seat : goal.serve-report-requires-clause-seat
 serve-report-requires-clause-seat g c κs within =
