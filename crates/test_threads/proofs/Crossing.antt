@@ -1,6 +1,12 @@
 -- What may pass from thread to thread, where its disk may: a seat, and a loan of the store that is shared.
+use mathlib.Core.List.{[], ◌∷◌}
+use mir.Syntax.{Sym}
+use denote.Builtin.{u32}
 use denote.RattleType.{RattleType}
-use denote.Param.Send.{IsSend, IsSync, sendable}
+use denote.Param.Send.{recorded_sync, struct_sync, IsSend, IsSync, sendable}
+use denote.Struct.Declared.{row, shape, Declared}
+use denote.Struct.Tuple.{type_at}
+use Rattle.std.specs.contracts.sync.atomic.AtomicU32 as number
 use Rattle.std.proofs.Crossing.{crosses}
 use Rattle.afl_outside.specs.declared.disk.Disk as Disk
 use Rattle.cell_values.proofs.datum.CompareOp.TheSendSync as compare_way
@@ -33,6 +39,18 @@ use Rattle.atomic_table.proofs.shared.Seat.TheSendSync as table_seat
 use Rattle.turn_lock.proofs.bell.Bell.TheSendSync as bell_way
 use Rattle.snapshot_manager.specs.contracts.seat.Seat as seat
 use Rattle.snapshot_manager.specs.contracts.shared.Shared as shared
+
+-- what a closure lends may be seen by several threads where each part may
+pub five_sync : (name : Sym) (A B C D E : RattleType) → IsSync A → IsSync B → IsSync C → IsSync D → IsSync E →
+    IsSync (row (type_at name (A ∷ B ∷ C ∷ D ∷ E ∷ [])))
+five_sync name A B C D E a b c d e =
+    let T : Declared = type_at name (A ∷ B ∷ C ∷ D ∷ E ∷ []) in recorded_sync _ T.D T.to T.to_one (struct_sync (shape T) (a, (b, (c, (d, (e, tt))))))
+
+pub count_sync : IsSync u32
+count_sync = search sendable
+
+pub working_sync : IsSync number.the_row
+working_sync = search (sendable, crosses) depth 20
 
 ruleset changes_cross = (
   compare_way.the_send,

@@ -1,20 +1,25 @@
 //! Two sessions on threads, beside one that reaps.
-ghost use Rattle.std.specs.Prelude.{◌≡◌, ◌≤◌, [], false, length, vec_capacity, vec_len, All};
-ghost use Rattle.snapshot_manager.specs.Seats.{seats_in_all, IsIdle, IsSeatOf};
+ghost use Rattle.std.specs.Prelude.{◌≡◌, [], false, length, vec_len, All};
+ghost use Rattle.snapshot_manager.specs.Seats.{seats_in_all, AreIdleSeats, IsIdle, IsSeatOf};
 ghost use Rattle.test_stores.specs.Visits.{IsFree, IsUntold};
 
 use afl_outside::Disk;
 use cell_values::{List, Memory};
 use snapshot_manager::{Seat, Shared, Store};
 use std::alloc::{AllocError, Global};
-use std::snapshot::Snapshot;
 use std::sync::Wait;
+use std::sync::atomic::{AtomicU32, Ordering};
 use std::thread;
-use std::thread::{Promise, Threads};
-use store_ledger::let_go_seen;
+use std::thread::Threads;
 use test_disks::let_go_store;
-use test_stores::{commit_once, taken, with_seat};
+use test_stores::commit_once;
 use turn_lock::Ring;
+
+/// How many sessions there are.
+const SESSIONS: u32 = 2;
+
+/// How many threads there are: those of the sessions, and the reaper's.
+const THREADS: usize = 3;
 
 /// The name of the array that a session stores.
 fn array_of(session: u32) -> &'static str {
@@ -41,17 +46,18 @@ fn statement_behind(alloc: Global, name: &str, commits: u32) -> Result<String, A
     }
 }
 
-/// Makes so many commits of the session's array.
+/// Makes so many commits of the session's array. The last session that is done with that closes the bell.
 fn commit_often<D: Disk, R: Threads + Wait + Sync>(
     rt: &R,
     alloc: Global,
     shared: &Shared<D>,
+    working: &AtomicU32,
     seat: &mut Seat<D>,
     count: u32,
 )
     requires untold { IsUntold D.moment shared.now }
     requires free { IsFree D.moment shared.now seat.old }
-    ensures { IsFree D.moment shared.now seat.new }
+    ensures { IsSeatOf shared.now seat.new × IsIdle seat.new }
 {
     let name = array_of(seat.session());
     for commits in 0..count {
@@ -60,10 +66,55 @@ fn commit_often<D: Disk, R: Threads + Wait + Sync>(
             Err(AllocError) => {}
         }
     }
+    if working.fetch_sub(1, Ordering::SeqCst) == 1 {
+        shared.close_bell(rt);
+    }
 }
 
-/// Each session makes its commits, on a thread of its own.
-fn commit_all<D: Disk + Send, R: Threads + Wait + Sync>(
+/// Reaps whenever the bell was rung, until it is closed.
+fn keep<D: Disk, R: Wait>(rt: &R, shared: &Shared<D>, seat: &mut Seat<D>)
+    requires { IsSeatOf shared.now seat.old × IsIdle seat.old }
+    ensures { IsSeatOf shared.now seat.new × IsIdle seat.new }
+{
+    for _ in rt.forever() {
+        match shared.await_bell(rt) {
+            Ring::Rung => {
+                let _ = shared.reap(rt, seat);
+            }
+            Ring::Closed => return,
+        }
+    }
+}
+
+/// The sessions make their commits, and the reaper runs beside them, each on a thread of its own. The first seat is the reaper's: where no thread
+/// can be made for it, it comes after all others, and finds the bell closed.
+fn work_all<D: Disk + Send, R: Threads + Wait + Sync>(
+    rt: &R,
+    alloc: Global,
+    shared: &Shared<D>,
+    working: &AtomicU32,
+    seats: &mut [Seat<D>],
+    count: u32,
+)
+    requires untold { IsUntold D.moment shared.now }
+    requires free { All (IsFree D.moment shared.now) seats.old }
+    ensures seats { AreIdleSeats shared.now seats.new }
+    ensures count { length seats.new ≡ length seats.old }
+{
+    let each = |place: usize, seat: &mut Seat<D>|
+        requires { IsUntold D.moment shared.now × IsFree D.moment shared.now seat.now }
+        ensures { IsSeatOf shared.entry.now seat.exit.now × IsIdle seat.exit.now }
+    {
+        match place {
+            0 => keep(rt, shared, seat),
+            _ => commit_often(rt, alloc, shared, working, seat, count),
+        }
+    };
+    thread::for_each_mut(rt, seats, THREADS, &each);
+}
+
+/// The seats, once the sessions and the reaper have done their work.
+fn worked<D: Disk + Send, R: Threads + Wait + Sync>(
     rt: &R,
     alloc: Global,
     shared: &Shared<D>,
@@ -72,94 +123,13 @@ fn commit_all<D: Disk + Send, R: Threads + Wait + Sync>(
 ) -> Vec<Seat<D>>
     requires untold { IsUntold D.moment shared.now }
     requires free { All (IsFree D.moment shared.now) seats.items }
-    ensures free { All (IsFree D.moment shared.now) result.items }
+    ensures seats { AreIdleSeats shared.now result.items }
     ensures count { vec_len result ≡ vec_len seats }
 {
-    let threads = seats.len().max(1);
-    let each = |_: usize, seat: &mut Seat<D>|
-        requires { IsUntold D.moment shared.now × IsFree D.moment shared.now seat.now }
-        ensures { IsFree D.moment shared.entry.now seat.exit.now }
-    { commit_often(rt, alloc, shared, seat, count) };
-    thread::for_each_mut(rt, seats.as_mut_slice(), threads, &each);
+    let working = AtomicU32::new(SESSIONS);
+    seats.reverse();
+    work_all(rt, alloc, shared, &working, seats.as_mut_slice(), count);
     seats
-}
-
-/// Reaps whenever the bell was rung, until it is closed, and gives the seat back.
-fn keep<D: Disk, R: Wait>(rt: &R, shared: &Shared<D>, mut seat: Seat<D>) -> Seat<D>
-    requires { IsSeatOf shared.now seat × IsIdle seat }
-    ensures { IsSeatOf shared.now result × IsIdle result }
-{
-    for _ in rt.forever() {
-        match shared.await_bell(rt) {
-            Ring::Rung => {
-                let _ = shared.reap(rt, &mut seat);
-            }
-            Ring::Closed => return seat,
-        }
-    }
-    unreachable!()
-}
-
-/// The seat that the reaper gives back is one of this store, and has no turn.
-struct SeatBack<D: Disk> {
-    shared: Snapshot<Shared<D>>,
-}
-
-impl<D: Disk> Drop for SeatBack<D> {
-    fn drop(self) {
-        let SeatBack { shared } = self;
-        let_go_seen(shared);
-    }
-}
-
-impl<D: Disk> Promise<Seat<D>> for SeatBack<D> {
-    ghost kept_by = { λ p seat. IsSeatOf p.shared.value seat × IsIdle seat };
-}
-
-/// The sessions make their commits, and the reaper runs beside them. Where no thread can be made for it, it comes after them.
-fn commit_beside<D: Disk + Send, R: Threads + Wait + Sync>(
-    rt: &R,
-    alloc: Global,
-    shared: &Shared<D>,
-    seats: Vec<Seat<D>>,
-    own: Seat<D>,
-    count: u32,
-) -> (Vec<Seat<D>>, Seat<D>)
-    requires untold { IsUntold D.moment shared.now }
-    requires free { All (IsFree D.moment shared.now) seats.items }
-    requires own { IsSeatOf shared.now own × IsIdle own }
-    ensures free { All (IsFree D.moment shared.now) result.0.items }
-    ensures count { vec_len result.0 ≡ vec_len seats }
-    ensures own { IsSeatOf shared.now result.1 × IsIdle result.1 }
-{
-    thread::scope(
-        thread::scope_env(),
-        rt,
-        move |scope| -> (Vec<Seat<D>>, Seat<D>)
-            requires untold { IsUntold D.moment shared.now }
-            requires free { All (IsFree D.moment shared.now) seats.items }
-            requires own { IsSeatOf shared.now own × IsIdle own }
-            ensures free { All (IsFree D.moment shared.entry.now) result.0.items }
-            ensures count { vec_len result.0 ≡ vec_len seats }
-            ensures own { IsSeatOf shared.entry.now result.1 × IsIdle result.1 }
-        {
-            let reaper = scope.spawn_with(
-                SeatBack {
-                    shared: Snapshot::of(shared),
-                },
-                move || -> Seat<D>
-                    requires { IsSeatOf shared.now own × IsIdle own }
-                    ensures { IsSeatOf shared.entry.now result × IsIdle result }
-                { keep(rt, shared, own) },
-            );
-            let seats = commit_all(rt, alloc, shared, seats, count);
-            shared.close_bell(rt);
-            match reaper {
-                Ok(thread) => (seats, thread.join(rt)),
-                Err(refused) => (seats, (refused.value)()),
-            }
-        },
-    )
 }
 
 /// The store, once the sessions and the reaper have given their seats back.
@@ -167,25 +137,15 @@ fn stored_by<D: Disk + Send, R: Threads + Wait + Sync>(
     rt: &R,
     alloc: Global,
     shared: Shared<D>,
-    mut seats: List<Seat<D>>,
-    room: Vec<Seat<D>>,
+    seats: List<Seat<D>>,
     count: u32,
 ) -> Store<D>
     requires untold { IsUntold D.moment shared }
-    requires all { seats_in_all shared ≡ 3 }
-    requires count { length seats ≡ 3 }
+    requires count { length seats ≡ seats_in_all shared }
     requires free { All (IsFree D.moment shared) seats }
-    requires room { (room.items ≡ []) × (3 ≤ vec_capacity room) }
 {
-    let own = taken(&shared, &mut seats);
-    let (back, own) = commit_beside(rt, alloc, &shared, seats.into_vec(), own, count);
-    let mut seats = List::from_vec(back);
-    let second = taken(&shared, &mut seats);
-    let first = taken(&shared, &mut seats);
-    let one = with_seat(&shared, room, first);
-    let two = with_seat(&shared, one, second);
-    let all = with_seat(&shared, two, own);
-    shared.finish(List::from_vec(all))
+    let back = worked(rt, alloc, &shared, seats.into_vec(), count);
+    shared.finish(List::from_vec(back))
 }
 
 /// Two sessions make so many commits each, on a thread of its own. The store comes back.
@@ -199,14 +159,9 @@ pub(crate) fn stored_by_two<D: Disk + Send + Drop, R: Threads + Wait + Sync>(
     requires notes { store.ledger.notes ≡ [] }
     requires untold { (D.moment store.opened.value.disk).state.honest ≡ false }
 {
-    let Ok(room) = Vec::with_capacity(alloc, 3) else {
-        let_go_store(store);
-        return Err(Memory);
-    };
-    match Shared::new(alloc, store, 2) {
-        Ok((shared, seats)) => Ok(stored_by(rt, alloc, shared, seats, room, count)),
+    match Shared::new(alloc, store, SESSIONS) {
+        Ok((shared, seats)) => Ok(stored_by(rt, alloc, shared, seats, count)),
         Err((Memory, store)) => {
-            drop(room);
             let_go_store(store);
             Err(Memory)
         }
