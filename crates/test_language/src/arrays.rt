@@ -3,43 +3,29 @@
 use crate::schemas::schema_in;
 use cell_values::{Bytes, Cell, Datum, List, Memory, Row, Schema, coord_of};
 use result_print::{csv_plus, dcsv};
-use std::alloc::Global;
 use test_kit::{Transcript, one_more, push_made};
 
-/// A cell that holds this text.
-fn row_at(alloc: Global, at: i64, text: &[u8]) -> Result<Row, Memory> {
-    let text = Bytes::from_slice(alloc, text)?;
-    Ok(Row {
-        at: coord_of(&[at]),
-        cell: Cell::Full(one_more(List::new(alloc), Datum::Text(text))?),
-    })
-}
-
 /// Adds a cell that holds this text, behind the others.
-fn push_row(out: &mut Transcript, rows: &mut List<Row>, text: &[u8]) {
+fn push_row(rows: &mut List<Row>, text: &[u8]) -> Result<(), Memory> {
     let at = i64::try_from(rows.len()).unwrap_or(0);
-    match row_at(rows.allocator(), at, text) {
-        Ok(row) => {
-            let added = rows.push(row);
-            out.note(added.is_ok());
-        }
-        Err(Memory) => out.note_short(),
-    }
-}
-
-fn push_array(out: &mut Transcript, schema: &Schema, rows: &[Row]) {
-    let alloc = out.alloc();
-    push_made(out, dcsv(alloc, schema, rows));
-    push_made(out, csv_plus(alloc, schema, rows));
+    let text = Bytes::from_slice(rows.allocator(), text)?;
+    let values = one_more(List::new(rows.allocator()), Datum::Text(text))?;
+    rows.push(Row {
+        at: coord_of(&[at]),
+        cell: Cell::Full(values),
+    })
 }
 
 /// Adds both texts of the array of this schema whose cells are the parts of a text between each `|`.
 fn push_parts(out: &mut Transcript, schema: &Schema, text: &str) {
-    let mut rows = List::new(out.alloc());
+    let alloc = out.alloc();
+    let mut rows = List::new(alloc);
     for part in text.split('|') {
-        push_row(out, &mut rows, part.as_bytes());
+        let added = push_row(&mut rows, part.as_bytes());
+        out.note(added.is_ok());
     }
-    push_array(out, schema, rows.as_slice());
+    push_made(out, dcsv(alloc, schema, rows.as_slice()));
+    push_made(out, csv_plus(alloc, schema, rows.as_slice()));
     drop(rows);
 }
 

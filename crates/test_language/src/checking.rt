@@ -11,15 +11,12 @@ use crate::without_end;
 use afl_parser::parse;
 use afl_trees::{Tree, let_go_tree};
 use afl_types::{TypeFault, check, let_go_typed};
-use cell_values::{Memory, Span};
+use cell_values::{MAX_STATEMENT, Memory, Span};
 use logical_plan::Names;
 use result_print::{Refusal, refusal_line};
 use schema_grammar::TypeKind;
 use std::str::from_utf8;
 use test_kit::{Transcript, push_word};
-
-/// How many bytes a statement may have.
-const LIMIT: usize = 1_048_576;
 
 /// Adds the rule that a statement breaks, with the place.
 fn push_fault(out: &mut Transcript, span: Span, kind: TypeKind) {
@@ -51,7 +48,7 @@ fn push_checked(out: &mut Transcript, text: &[u8], tree: &Tree, names: &Names)
 fn push_statement(out: &mut Transcript, text: &[u8], names: &Names)
     requires { AreValid names.now.arrays }
 {
-    if text.len() > LIMIT {
+    if text.len() > MAX_STATEMENT {
         push_word(out, "too long");
         return;
     }
@@ -64,8 +61,8 @@ fn push_statement(out: &mut Transcript, text: &[u8], names: &Names)
     }
 }
 
-/// The statement of a line, the number of the next version of `A`, and how many arrays stand beside the few.
-fn statement_in(line: &[u8]) -> (u32, usize, &[u8]) {
+/// The number of the next version of `A`, how many arrays stand beside the few, and the statement of a line.
+fn statement_in(line: &[u8]) -> (usize, usize, &[u8]) {
     if let Some(text) = line.strip_prefix(b"#full ".as_slice()) {
         (7, 1_019, text)
     } else if let Some(text) = line.strip_prefix(b"#last ".as_slice()) {

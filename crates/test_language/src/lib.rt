@@ -39,21 +39,15 @@ fn table_of(title: &str) -> Option<Table> {
     }
 }
 
-/// Adds what is told of a line that is no title.
-fn push_told(out: &mut Transcript, table: Table, line: &[u8]) {
+/// Adds a title, or what is told of another line.
+fn push_line(out: &mut Transcript, table: Table, line: &[u8]) {
     match table {
+        _ if line.starts_with(b"##".as_slice()) => {
+            push_words(out, &[from_utf8(line).unwrap_or("##"), "\n"]);
+        }
         Table::Texts => push_text_line(out, from_utf8(line).unwrap_or("no text")),
         Table::Parsing => push_parsed_line(out, line),
         Table::Checking => push_checked_line(out, line),
-    }
-}
-
-/// Adds a title, or what is told of another line.
-fn push_line(out: &mut Transcript, table: Table, line: &[u8]) {
-    if line.starts_with(b"##".as_slice()) {
-        push_words(out, &[from_utf8(line).unwrap_or("##"), "\n"]);
-    } else {
-        push_told(out, table, line);
     }
 }
 
@@ -65,17 +59,12 @@ fn without_end(line: &[u8]) -> &[u8] {
     }
 }
 
-/// Adds titles, and what is told of each other line.
-fn push_lines(out: &mut Transcript, table: Table, text: &[u8]) {
-    for line in text.split_inclusive(|byte| *byte == b'\n') {
-        push_line(out, table, without_end(line));
-    }
-}
-
 /// Adds the title of a table of texts, and what is told of its lines, which need not be UTF-8; nothing where the title is another one.
 pub fn push_language_table(out: &mut Transcript, title: &str, text: &[u8]) {
     if let Some(table) = table_of(title) {
         push_words(out, &["### ", title, "\n"]);
-        push_lines(out, table, text);
+        for line in text.split_inclusive(|byte| *byte == b'\n') {
+            push_line(out, table, without_end(line));
+        }
     }
 }

@@ -32,11 +32,11 @@ fn write_front(before: &str, node: &Node, out: &mut Transcript) {
     push_word(out, before);
     match node {
         Node::Call(name, _) => push_words(out, &["(", name_text(name)]),
-        Node::As(..) => push_word(out, "(as"),
-        Node::Not(_) => push_word(out, "(not"),
-        Node::Minus(_) => push_word(out, "(-"),
+        Node::As(..) => push_word(out, "(as "),
+        Node::Not(_) => push_word(out, "(not "),
+        Node::Minus(_) => push_word(out, "(- "),
         Node::Binary(op, _, _) => {
-            let written = format!(in out.alloc(); "({op:?}");
+            let written = format!(in out.alloc(); "({op:?} ");
             push_written(out, written);
         }
         Node::Group(_) => push_word(out, "["),
@@ -44,22 +44,15 @@ fn write_front(before: &str, node: &Node, out: &mut Transcript) {
     }
 }
 
-/// The bracket that closes a node that has parts.
-fn bracket_behind(node: &Node) -> &'static str {
-    match node {
-        Node::Call(..) | Node::As(..) | Node::Not(_) | Node::Minus(_) | Node::Binary(..) => ")",
-        Node::Group(_) => "]",
-        _ => "",
-    }
-}
-
 /// Adds what stands behind the last part of a tree's node, and the tree's span.
 fn write_end(tree: &Tree, out: &mut Transcript) {
-    if let Node::As(_, name) = &tree.node {
-        push_words(out, &[" ", name_text(name)]);
+    match &tree.node {
+        Node::As(_, name) => push_words(out, &[" ", name_text(name), ")"]),
+        Node::Call(..) | Node::Not(_) | Node::Minus(_) | Node::Binary(..) => push_word(out, ")"),
+        Node::Group(_) => push_word(out, "]"),
+        _ => {}
     }
-    push_words(out, &[bracket_behind(&tree.node), ":"]);
-    push_span(out, &tree.span);
+    push_span(out, ":", &tree.span);
 }
 
 /// Adds the outline of a tree behind a word.
@@ -71,14 +64,13 @@ pub(crate) fn write_outline(before: &str, tree: &Tree, out: &mut Transcript) {
                 write_outline(" ", argument, out);
             }
         }
-        Node::As(inner, _) | Node::Not(inner) | Node::Minus(inner) => {
-            write_outline(" ", inner, out);
+        Node::As(inner, _) | Node::Not(inner) | Node::Minus(inner) | Node::Group(inner) => {
+            write_outline("", inner, out);
         }
         Node::Binary(_, left, right) => {
-            write_outline(" ", left, out);
+            write_outline("", left, out);
             write_outline(" ", right, out);
         }
-        Node::Group(inner) => write_outline("", inner, out),
         _ => {}
     }
     write_end(tree, out);

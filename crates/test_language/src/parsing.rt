@@ -7,13 +7,9 @@ use crate::outline::write_outline;
 use crate::told::push_written;
 use afl_parser::{ParseFault, parse};
 use afl_trees::{Tree, let_go_tree, print};
-use cell_values::{Bytes, Memory};
+use cell_values::{Bytes, MAX_STATEMENT, Memory};
 use std::alloc::Global;
-use std::str::from_utf8;
-use test_kit::{Transcript, push_word, text_of};
-
-/// How many bytes a statement may have.
-const LIMIT: usize = 1_048_576;
+use test_kit::{Transcript, push_made, push_word, text_of};
 
 /// What is told of a statement.
 #[derive(Clone, Copy)]
@@ -34,19 +30,6 @@ fn form_of(line: &[u8]) -> (Form, &[u8]) {
     }
 }
 
-/// Adds how a tree is printed, if its copy is printed so.
-fn push_compared(out: &mut Transcript, tree: &Tree, of_copy: &[u8]) {
-    match print(out.alloc(), tree) {
-        Ok(printed) => {
-            let is_copied = printed.as_slice() == of_copy;
-            drop(printed);
-            let text = from_utf8(of_copy).unwrap_or("no text");
-            push_word(out, if is_copied { text } else { "another copy" });
-        }
-        Err(Memory) => out.note_short(),
-    }
-}
-
 /// How a copy of a tree is printed.
 fn printed_copy(alloc: Global, tree: &Tree) -> Result<Bytes, Memory> {
     let copy = tree.copy()?;
@@ -55,28 +38,18 @@ fn printed_copy(alloc: Global, tree: &Tree) -> Result<Bytes, Memory> {
     printed
 }
 
-fn push_printed(out: &mut Transcript, tree: &Tree) {
-    match printed_copy(out.alloc(), tree) {
-        Ok(of_copy) => {
-            push_compared(out, tree, of_copy.as_slice());
-            drop(of_copy);
-        }
-        Err(Memory) => out.note_short(),
-    }
-}
-
 /// Adds what is told of a tree.
 fn push_tree(out: &mut Transcript, form: Form, tree: &Tree) {
     match form {
         Form::Word => push_word(out, "ok"),
         Form::Outline => write_outline("", tree, out),
-        Form::Print => push_printed(out, tree),
+        Form::Print => push_made(out, printed_copy(out.alloc(), tree)),
     }
 }
 
 /// Adds what the parser answers to a text.
 fn push_parsed(out: &mut Transcript, form: Form, text: &[u8]) {
-    if text.len() > LIMIT {
+    if text.len() > MAX_STATEMENT {
         push_word(out, "too long");
         return;
     }

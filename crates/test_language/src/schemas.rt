@@ -4,12 +4,12 @@ ghost use Rattle.cell_values.specs.Schemas.{IsValid};
 
 use crate::tokens::push_span;
 use afl_lexer::tokens;
-use cell_values::{Memory, Schema};
+use cell_values::{MAX_STATEMENT, Schema};
 use schema_grammar::{
     SchemaFault, SchemaText, ShapeFault, TypeKind, meaning, print_shape, schema_text, shape,
 };
 use std::alloc::Global;
-use test_kit::{Transcript, push_count, push_made, push_word, push_words};
+use test_kit::{Transcript, push_made, push_numbered, push_word, push_words};
 
 /// The syntax tree of a text's tokens from one on, and the token behind it.
 fn read(alloc: Global, text: &[u8], from: usize) -> Result<(SchemaText, usize), ShapeFault>
@@ -33,7 +33,7 @@ fn read(alloc: Global, text: &[u8], from: usize) -> Result<(SchemaText, usize), 
 pub(crate) fn schema_in(alloc: Global, text: &[u8]) -> Option<Schema>
     ensures { IfSome result IsValid }
 {
-    if text.len() > 1_048_576 {
+    if text.len() > MAX_STATEMENT {
         return None;
     }
     let (shape, _) = read(alloc, text, 0).ok()?;
@@ -58,80 +58,44 @@ fn rule_text(kind: TypeKind) -> &'static str {
     }
 }
 
-fn push_stop(out: &mut Transcript, fault: ShapeFault) {
-    match fault {
-        ShapeFault::Unexpected { token } => {
-            push_word(out, "stop at token ");
-            push_count(out, token as u64);
-        }
-        ShapeFault::Memory => push_word(out, "no tokens"),
-    }
-}
-
-/// Adds a copy of a schema.
-fn push_copied(out: &mut Transcript, schema: &Schema) {
-    match schema.copy() {
-        Ok(copy) => {
-            let text = schema_text(out.alloc(), &copy);
-            drop(copy);
-            push_made(out, text);
-        }
-        Err(Memory) => out.note_short(),
-    }
-}
-
 /// Adds the schema that a syntax tree means, or the first rule that it breaks with the place.
 fn push_meaning(out: &mut Transcript, text: &[u8], shape: &SchemaText) {
     match meaning(out.alloc(), text, shape) {
         Ok(schema) => {
-            push_copied(out, &schema);
+            let text = schema_text(out.alloc(), &schema);
             drop(schema);
+            push_made(out, text);
         }
         Err(SchemaFault::Rule { span, kind }) => {
-            push_word(out, "at ");
-            push_span(out, &span);
+            push_span(out, "at ", &span);
             push_words(out, &[": ", rule_text(kind)]);
         }
         Err(SchemaFault::Memory) => push_word(out, "no memory"),
     }
 }
 
-/// Adds what the schema that begins at a token means, and the token behind it.
-pub(crate) fn push_schema(out: &mut Transcript, text: &[u8], from: usize)
+/// Adds the schema as it is written for the word `tree`, else what it means and the token behind it.
+fn push_shape(out: &mut Transcript, word: &str, text: &[u8], shape: &SchemaText, next: usize) {
+    if word == "tree" {
+        push_made(out, print_shape(out.alloc(), shape));
+    } else {
+        push_meaning(out, text, shape);
+        push_numbered(out, " before token ", next as u64, "");
+    }
+}
+
+/// Adds what is told of the schema that begins at the token that a word names, the first one where it names none.
+pub(crate) fn push_schema(out: &mut Transcript, word: &str, text: &[u8])
     requires { length text.now ≤ 1048576 }
 {
-    match read(out.alloc(), text, from) {
+    match read(out.alloc(), text, word.parse::<usize>().unwrap_or(0)) {
         Ok((shape, next)) => {
-            push_meaning(out, text, &shape);
-            drop(shape);
-            push_word(out, " before token ");
-            push_count(out, next as u64);
-        }
-        Err(fault) => push_stop(out, fault),
-    }
-}
-
-/// Adds a copy of a syntax tree.
-fn push_shape(out: &mut Transcript, shape: &SchemaText) {
-    match shape.copy() {
-        Ok(copy) => {
-            let text = print_shape(out.alloc(), &copy);
-            drop(copy);
-            push_made(out, text);
-        }
-        Err(Memory) => out.note_short(),
-    }
-}
-
-/// Adds the schema as a text writes it.
-pub(crate) fn push_tree(out: &mut Transcript, text: &[u8])
-    requires { length text.now ≤ 1048576 }
-{
-    match read(out.alloc(), text, 0) {
-        Ok((shape, _)) => {
-            push_shape(out, &shape);
+            push_shape(out, word, text, &shape, next);
             drop(shape);
         }
-        Err(fault) => push_stop(out, fault),
+        Err(ShapeFault::Unexpected { token }) => {
+            push_numbered(out, "stop at token ", token as u64, "");
+        }
+        Err(ShapeFault::Memory) => push_word(out, "no tokens"),
     }
 }

@@ -10,15 +10,12 @@
 use crate::arrays::push_cells;
 use crate::pieces::push_pieces;
 use crate::replies::{push_array, push_list, push_refusal};
-use crate::schemas::{push_schema, push_tree};
+use crate::schemas::push_schema;
 use crate::tokens::push_tokens;
-use cell_values::{Bytes, Memory};
+use cell_values::{Bytes, MAX_STATEMENT, Memory};
 use std::alloc::Global;
 use std::str::from_utf8;
 use test_kit::{Transcript, bytes_of, push_word, push_words, text_of};
-
-/// How many bytes a statement may have.
-const LIMIT: usize = 1_048_576;
 
 /// The first word of a text, and what stands behind it.
 pub(crate) fn front_of(text: &str) -> (&str, &str) {
@@ -33,25 +30,14 @@ fn script_of(alloc: Global, line: &str) -> Result<Bytes, Memory> {
     bytes
 }
 
-/// Adds the tokens or the schema of a text.
-fn push_read(out: &mut Transcript, word: &str, text: &[u8]) {
-    if text.len() > LIMIT {
-        push_word(out, "too long");
-        return;
-    }
-    match word {
-        "tokens" => push_tokens(out, text),
-        "tree" => push_tree(out, text),
-        from => push_schema(out, text, from.parse::<usize>().unwrap_or(0)),
-    }
-}
-
 /// Adds what bytes are told to be.
 fn push_script(out: &mut Transcript, word: &str, script: &[u8]) {
     match word {
         "split" => push_pieces(out, script),
         "cells" => push_cells(out, from_utf8(script).unwrap_or("")),
-        word => push_read(out, word, script),
+        _ if script.len() > MAX_STATEMENT => push_word(out, "too long"),
+        "tokens" => push_tokens(out, script),
+        word => push_schema(out, word, script),
     }
 }
 
@@ -66,8 +52,10 @@ fn push_bytes(out: &mut Transcript, word: &str, line: &str) {
     }
 }
 
-/// Adds the answer to a line of these words.
-fn push_answer(out: &mut Transcript, word: &str, rest: &str) {
+/// Adds a line and its answer.
+pub(crate) fn push_text_line(out: &mut Transcript, line: &str) {
+    push_words(out, &["> ", line, "\n"]);
+    let (word, rest) = front_of(line);
     match word {
         "schema" => {
             let (from, text) = front_of(rest);
@@ -77,14 +65,6 @@ fn push_answer(out: &mut Transcript, word: &str, rest: &str) {
         "list" => push_list(out, rest),
         "refusal" => push_refusal(out, rest),
         word => push_bytes(out, word, rest),
-    }
-}
-
-/// Adds a line and its answer.
-pub(crate) fn push_text_line(out: &mut Transcript, line: &str) {
-    push_words(out, &["> ", line, "\n"]);
-    if let Some((word, rest)) = line.split_once(' ') {
-        push_answer(out, word, rest);
     }
     push_word(out, "\n");
 }

@@ -7,8 +7,8 @@ use afl_lexer::{
 };
 use cell_values::{Memory, Name, Span};
 use test_kit::{
-    Transcript, push_code, push_count, push_integer, push_made, push_range, push_text, push_word,
-    push_words,
+    Transcript, push_code, push_integer, push_made, push_numbered, push_range, push_text,
+    push_word, push_words,
 };
 
 fn word_text(word: Word) -> &'static str {
@@ -60,8 +60,9 @@ fn fault_text(kind: LexKind) -> &'static str {
     }
 }
 
-/// Adds a place, as `3-5`.
-pub(crate) fn push_span(out: &mut Transcript, span: &Span) {
+/// Adds a place behind a word, as `at 3-5`.
+pub(crate) fn push_span(out: &mut Transcript, before: &str, span: &Span) {
+    push_word(out, before);
     push_range(out, u64::from(span.start), u64::from(span.end));
 }
 
@@ -95,16 +96,6 @@ fn push_meaning(out: &mut Transcript, text: &[u8], token: &Token)
     }
 }
 
-/// Adds a token behind a bar, with its place.
-fn push_token(out: &mut Transcript, bar: &str, text: &[u8], token: &Token)
-    requires { IsTokenOf text.now token.now }
-{
-    push_word(out, bar);
-    push_meaning(out, text, token);
-    push_word(out, " ");
-    push_span(out, &token.span);
-}
-
 /// Adds the tokens of a text, each with its place, or where and why it stops to have any.
 pub(crate) fn push_tokens(out: &mut Transcript, text: &[u8])
     requires { length text.now ≤ 1048576 }
@@ -113,15 +104,16 @@ pub(crate) fn push_tokens(out: &mut Transcript, text: &[u8])
         Ok(found) => {
             let mut bar = "";
             for token in found.as_slice() {
-                push_token(out, bar, text, token);
+                push_word(out, bar);
+                push_meaning(out, text, token);
+                push_span(out, " ", &token.span);
                 bar = " | ";
             }
             drop(found);
         }
         Err(LexFault::At { at, kind }) => {
-            push_word(out, "at ");
-            push_count(out, u64::from(at));
-            push_words(out, &[": ", fault_text(kind)]);
+            push_numbered(out, "at ", u64::from(at), ": ");
+            push_word(out, fault_text(kind));
         }
         Err(LexFault::Memory) => push_word(out, "no memory"),
     }

@@ -1,13 +1,13 @@
 //! Statements that are typed, as lines.
 use afl_types::Typed;
 use cell_values::{Memory, Name, Schema};
-use logical_plan::{Leaf, Plan, reads};
-use plan_changes::Change;
+use logical_plan::{Plan, reads};
+use plan_changes::{Change, changed_name};
 use plan_schemas::schema_of;
 use schema_grammar::schema_text;
 use std::alloc::AllocError;
 use std::str::from_utf8;
-use test_kit::{Transcript, push_count, push_made, push_word, push_words};
+use test_kit::{Transcript, push_made, push_numbered, push_word, push_words};
 
 pub(crate) fn name_text(name: &Name) -> &str {
     from_utf8(name.as_slice()).unwrap_or("no text")
@@ -24,25 +24,14 @@ pub(crate) fn push_written(out: &mut Transcript, written: Result<String, AllocEr
     }
 }
 
-/// Adds a word and a name, with a space between.
-fn push_named(out: &mut Transcript, word: &str, name: &Name) {
-    push_words(out, &[word, " ", name_text(name)]);
-}
-
-/// Adds versions that are read, each between these words.
-fn push_leaves(out: &mut Transcript, before: &str, leaves: &[Leaf], behind: &str) {
-    for leaf in leaves {
-        push_words(out, &[before, name_text(&leaf.name), "@"]);
-        push_count(out, u64::from(leaf.version));
-        push_word(out, behind);
-    }
-}
-
 /// Adds the versions that a plan reads, each between these words.
 fn push_reads(out: &mut Transcript, before: &str, plan: &Plan, behind: &str) {
     match reads(out.alloc(), plan) {
         Ok(leaves) => {
-            push_leaves(out, before, leaves.as_slice(), behind);
+            for leaf in leaves.as_slice() {
+                push_words(out, &[before, name_text(&leaf.name)]);
+                push_numbered(out, "@", u64::from(leaf.version), behind);
+            }
             drop(leaves);
         }
         Err(Memory) => out.note_short(),
@@ -62,29 +51,36 @@ fn push_plan(out: &mut Transcript, plan: &Plan) {
     }
 }
 
-/// Adds an array that is made, under its schema.
-fn push_array(out: &mut Transcript, word: &str, name: &Name, schema: &Schema) {
-    push_words(out, &[word, " ", name_text(name), " "]);
-    let text = schema_text(out.alloc(), schema);
-    push_made(out, text);
-}
-
-/// Adds a new version of an array, and the versions that its plan reads.
-fn push_version(out: &mut Transcript, word: &str, name: &Name, schema: &Schema, plan: &Plan) {
-    push_array(out, word, name, schema);
-    push_word(out, " reads");
-    push_reads(out, " ", plan, "");
-}
-
-fn push_change(out: &mut Transcript, change: &Change) {
+/// What a change does to its array.
+fn verb_of(change: &Change) -> &'static str {
     match change {
-        Change::Create { name, schema } => push_array(out, "create", name, schema),
-        Change::Store { name, schema, plan } => push_version(out, "store", name, schema, plan),
-        Change::Insert { name, schema, plan } => push_version(out, "insert", name, schema, plan),
-        Change::Remove { name } => push_named(out, "remove", name),
-        Change::RemoveVersions { name, below } => {
-            push_words(out, &["remove ", name_text(name), " below "]);
-            push_count(out, u64::from(*below));
+        Change::Create { .. } => "create ",
+        Change::Store { .. } => "store ",
+        Change::Insert { .. } => "insert ",
+        Change::Remove { .. } | Change::RemoveVersions { .. } => "remove ",
+    }
+}
+
+/// Adds the text of a schema behind a space.
+fn push_schema(out: &mut Transcript, schema: &Schema) {
+    push_word(out, " ");
+    push_made(out, schema_text(out.alloc(), schema));
+}
+
+/// Adds a change: its array, the schema that is made, and the versions that its plan reads.
+fn push_change(out: &mut Transcript, change: &Change) {
+    push_word(out, verb_of(change));
+    push_word(out, name_text(changed_name(change)));
+    match change {
+        Change::Create { schema, .. } => push_schema(out, schema),
+        Change::Store { schema, plan, .. } | Change::Insert { schema, plan, .. } => {
+            push_schema(out, schema);
+            push_word(out, " reads");
+            push_reads(out, " ", plan, "");
+        }
+        Change::Remove { .. } => {}
+        Change::RemoveVersions { below, .. } => {
+            push_numbered(out, " below ", u64::from(*below), "");
         }
     }
 }
@@ -94,8 +90,8 @@ pub(crate) fn push_typed(out: &mut Transcript, typed: &Typed) {
     match typed {
         Typed::Query(plan) => push_plan(out, plan),
         Typed::Change(change) => push_change(out, change),
-        Typed::Versions(name) => push_named(out, "versions", name),
-        Typed::Show(name) => push_named(out, "show", name),
+        Typed::Versions(name) => push_words(out, &["versions ", name_text(name)]),
+        Typed::Show(name) => push_words(out, &["show ", name_text(name)]),
         Typed::ListArrays => push_word(out, "list"),
     }
 }
