@@ -6,20 +6,18 @@
 
 mod bells;
 mod commits;
-mod logs;
 mod seats;
 mod steps;
-mod tally;
+mod turns;
 
 use bells::push_bells;
 use commits::{push_cases, push_runs};
-use logs::push_entries;
 use seats::push_seats;
 use std::sync::Wait;
 use std::thread::Threads;
 use steps::push_shared;
-use tally::push_turns;
 use test_kit::{Transcript, push_words};
+use turns::{ENTRIES, MARKS, push_turns};
 
 /// A table of cases.
 #[derive(Clone, Copy)]
@@ -43,21 +41,6 @@ fn table_of(title: &str) -> Option<Table> {
     }
 }
 
-/// Adds what comes of a table.
-fn push_table<R: Threads + Wait + Sync>(rt: &R, out: &mut Transcript, table: Table, text: &str) {
-    match table {
-        Table::SharedSteps => push_shared(rt, out, text),
-        Table::Seats => push_seats(rt, out, text),
-        Table::Turns => {
-            push_turns(rt, out);
-            push_entries(rt, out);
-            push_bells(rt, out);
-        }
-        Table::Steps => push_runs(rt, out, text),
-        Table::Stops => push_cases(rt, out),
-    }
-}
-
 /// Adds the title of a table of commits, turns or threads, and what comes of its lines; nothing where the title is another one.
 pub fn push_commit_table<R: Threads + Wait + Sync>(
     rt: &R,
@@ -67,6 +50,16 @@ pub fn push_commit_table<R: Threads + Wait + Sync>(
 ) {
     if let Some(table) = table_of(title) {
         push_words(out, &["### ", title, "\n"]);
-        push_table(rt, out, table, text);
+        match table {
+            Table::SharedSteps => push_shared(rt, out, text),
+            Table::Seats => push_seats(rt, out, text),
+            Table::Turns => {
+                push_turns(rt, out, &MARKS);
+                push_turns(rt, out, &ENTRIES);
+                push_bells(rt, out);
+            }
+            Table::Steps => push_runs(rt, out, text),
+            Table::Stops => push_cases(rt, out),
+        }
     }
 }

@@ -6,23 +6,21 @@
 use std::sync::Wait;
 use std::thread::Threads;
 use test_disks::{count_of, limits_of};
-use test_kit::{Transcript, begin_answer, push_word};
+use test_kit::{Transcript, begin_answer};
 use test_threads::push_threads;
 
 /// Adds what comes of a line.
 fn push_line<R: Threads + Wait + Sync>(rt: &R, out: &mut Transcript, line: &str) {
     let numbers = line.strip_prefix("threads ").unwrap_or("");
-    if begin_answer(out, line) {
-        match numbers.rsplit_once(' ') {
-            Some((limits, count)) => push_threads(rt, out, limits_of(limits), count_of(count)),
-            None => push_word(out, "unknown\n"),
-        }
-    }
+    let (limits, count) = numbers.rsplit_once(' ').unwrap_or((numbers, ""));
+    push_threads(rt, out, limits_of(limits), count_of(count));
 }
 
 /// Adds each line, and what comes of it.
 pub(crate) fn push_seats<R: Threads + Wait + Sync>(rt: &R, out: &mut Transcript, text: &str) {
     for line in text.lines() {
-        push_line(rt, out, line);
+        if begin_answer(out, line) {
+            push_line(rt, out, line);
+        }
     }
 }

@@ -12,51 +12,43 @@ use test_kit::{Transcript, begin_answer, push_word, push_words};
 use test_stores::{Run, answer_line, push_finished};
 use test_threads::shared_database;
 
-/// Adds a title, or a line with its answer.
-fn push_step<R: Threads + Wait + Sync>(rt: &R, out: &mut Transcript, run: &mut Run, line: &str)
-    requires { IsRun run.old }
-    ensures { IsRun run.new }
-{
-    if begin_answer(out, line) {
-        answer_line(rt, out.alloc(), run, line).tell(out);
-    }
-}
-
 /// Adds each line, with its answer.
 fn push_steps<R: Threads + Wait + Sync>(rt: &R, out: &mut Transcript, run: &mut Run, steps: &str)
     requires { IsRun run.old }
     ensures { IsRun run.new }
 {
     for line in steps.lines() {
-        push_step(rt, out, run, line);
+        if begin_answer(out, line) {
+            answer_line(rt, out.alloc(), run, line).tell(out);
+        }
     }
 }
 
-/// Adds each line, with its answer, and what the store tells once it is taken back.
-fn push_run<R: Threads + Wait + Sync>(rt: &R, out: &mut Transcript, mut run: Run, steps: &str)
-    requires { IsRun run }
-{
-    push_steps(rt, out, &mut run, steps);
-    push_word(out, "> finish\n");
-    push_finished(out, run);
-}
-
-/// Shares a store of these limits, and adds each line, with its answer.
+/// Shares a store of these limits, and adds each line, with its answer, and what the store tells once it is taken back.
 fn push_share<R: Threads + Wait + Sync>(rt: &R, out: &mut Transcript, numbers: &str, steps: &str) {
     push_words(out, &["> share ", numbers, "\n"]);
     match shared_database(rt, out.alloc(), limits_of(numbers)) {
-        Ok(run) => push_run(rt, out, run, steps),
+        Ok(mut run) => {
+            push_steps(rt, out, &mut run, steps);
+            push_word(out, "> finish\n");
+            push_finished(out, run);
+        }
         Err(answer) => answer.tell(out),
+    }
+}
+
+/// Adds the titles of some lines, and the store that they share, with their answers.
+fn push_part<R: Threads + Wait + Sync>(rt: &R, out: &mut Transcript, lines: &str) {
+    let (titles, rest) = lines.split_once("share ").unwrap_or((lines, ""));
+    push_word(out, titles);
+    if let Some((numbers, steps)) = rest.split_once('\n') {
+        push_share(rt, out, numbers, steps);
     }
 }
 
 /// Adds the lines of a text with their answers. Behind each line of `finish` a store is shared anew.
 pub(crate) fn push_shared<R: Threads + Wait + Sync>(rt: &R, out: &mut Transcript, text: &str) {
     for lines in text.split("finish\n") {
-        let (titles, rest) = lines.split_once("share ").unwrap_or((lines, ""));
-        push_word(out, titles);
-        if let Some((numbers, steps)) = rest.split_once('\n') {
-            push_share(rt, out, numbers, steps);
-        }
+        push_part(rt, out, lines);
     }
 }

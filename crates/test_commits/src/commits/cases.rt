@@ -16,19 +16,21 @@ struct Case<'a> {
 }
 
 /// What a file holds. One that can't be read as a store counts as want of memory.
-fn text_of(alloc: Global, file: &Bytes) -> Result<Bytes, Memory> {
-    held_in(alloc, file.copy()?, LIMITS)?.ok_or(Memory)
+fn text_of(alloc: Global, file: Bytes) -> Result<Bytes, Memory> {
+    held_in(alloc, file, LIMITS)?.ok_or(Memory)
 }
 
-/// What a file holds with a change.
-fn text_with<R: Threads + Sync>(
+/// What a file holds before a change, and with it.
+fn versions_of<R: Threads + Sync>(
     rt: &R,
     alloc: Global,
     file: &Bytes,
     change: &str,
-) -> Result<Bytes, Memory> {
-    let file = with_change(rt, alloc, file.copy()?, change)?;
-    text_of(alloc, &file)
+) -> Result<Versions, Memory> {
+    let changed = with_change(rt, alloc, file.copy()?, change)?;
+    let after = text_of(alloc, changed)?;
+    let before = text_of(alloc, file.copy()?)?;
+    Ok(Versions { before, after })
 }
 
 /// A file that was made, and what it holds before and after a change.
@@ -39,12 +41,11 @@ fn case_of<'a, R: Threads + Sync>(
     change: &'a str,
 ) -> Result<Case<'a>, Memory> {
     let file = made?;
-    let before = text_of(alloc, &file)?;
-    let after = text_with(rt, alloc, &file, change)?;
+    let versions = versions_of(rt, alloc, &file, change)?;
     Ok(Case {
         file,
         change,
-        versions: Versions { before, after },
+        versions,
     })
 }
 
@@ -143,33 +144,30 @@ fn push_change<R: Threads + Sync>(
     change: &str,
 ) {
     match case_of(rt, out.alloc(), made, change) {
-        Ok(case) => push_case(rt, out, title, &case),
+        Ok(case) => {
+            push_words(out, &["## ", title, "\nno call fails: "]);
+            let calls = push_attempt(rt, out, &case, None);
+            push_failing(rt, out, &case, calls);
+        }
         Err(Memory) => out.note_short(),
     }
-}
-
-fn push_case<R: Threads + Sync>(rt: &R, out: &mut Transcript, title: &str, case: &Case<'_>) {
-    push_words(out, &["## ", title, "\nno call fails: "]);
-    let calls = push_attempt(rt, out, case, None);
-    push_failing(rt, out, case, calls);
 }
 
 const FIRST: &str = "store(build(<v:int64>[i=0:2,2,0], i), A)";
 
 const SECOND: &str = "store(build(<v:int64>[i=0:2,2,0], i+10), A)";
 
+const BOTH: &str =
+    "store(build(<v:int64>[i=0:2,2,0], i), A)\nstore(build(<v:int64>[i=0:2,2,0], i+10), A)";
+
 const REMOVAL: &str = "remove_versions(A, 2)";
 
 const CREATED: &str = "create array B <v:int64>[i=0:0,1,0]";
 
-/// A database with some changes.
-fn with_changes<R: Threads + Sync>(
-    rt: &R,
-    alloc: Global,
-    changes: &[&str],
-) -> Result<Bytes, Memory> {
+/// A database with the change of each line.
+fn with_changes<R: Threads + Sync>(rt: &R, alloc: Global, changes: &str) -> Result<Bytes, Memory> {
     let mut file = new_database(alloc)?;
-    for change in changes {
+    for change in changes.lines() {
         file = with_change(rt, alloc, file, change)?;
     }
     Ok(file)
@@ -177,27 +175,25 @@ fn with_changes<R: Threads + Sync>(
 
 /// A database in whose log no entry is left.
 fn with_full_log<R: Threads + Sync>(rt: &R, alloc: Global) -> Result<Bytes, Memory> {
-    let mut file = new_database(alloc)?;
-    for number in 0..64u32 {
-        let change = format!(in alloc; "create array A{number} <v:int64>[i=0:0,1,0]")?;
-        file = with_change(rt, alloc, file, change.as_str())?;
+    let mut changes = Transcript::new(alloc);
+    for number in 0..64u64 {
+        push_numbered(
+            &mut changes,
+            "create array A",
+            number,
+            " <v:int64>[i=0:0,1,0]\n",
+        );
     }
-    Ok(file)
+    with_changes(rt, alloc, changes.finish()?.as_str())
 }
 
 /// Adds each case.
 pub(crate) fn push_cases<R: Threads + Sync>(rt: &R, out: &mut Transcript) {
     let alloc = out.alloc();
-    push_change(rt, out, SECOND, with_changes(rt, alloc, &[FIRST]), SECOND);
-    let removed = with_changes(rt, alloc, &[FIRST, SECOND]);
-    push_change(rt, out, REMOVAL, removed, REMOVAL);
-    push_change(
-        rt,
-        out,
-        "the 65th commit",
-        with_full_log(rt, alloc),
-        CREATED,
-    );
+    push_change(rt, out, SECOND, with_changes(rt, alloc, FIRST), SECOND);
+    push_change(rt, out, REMOVAL, with_changes(rt, alloc, BOTH), REMOVAL);
+    let full = with_full_log(rt, alloc);
+    push_change(rt, out, "the 65th commit", full, CREATED);
     let migration = "the first commit to a file of format 1";
     push_change(rt, out, migration, old_database(alloc), CREATED);
 }

@@ -19,66 +19,51 @@ pub(crate) struct Versions {
     pub(crate) after: Bytes,
 }
 
-/// What some images open as.
+/// The letters for what some images open as.
 #[derive(Clone, Copy)]
 struct Seen {
-    old: bool,
-    new: bool,
-    other: bool,
+    old: &'static str,
+    new: &'static str,
+    other: &'static str,
 }
 
-fn is_same(held: &Option<Bytes>, text: &Bytes) -> bool {
+/// Adds the letter for what an image opens as.
+fn add_held(seen: &mut Seen, held: &Option<Bytes>, versions: &Versions) {
     match held {
-        Some(held) => held.as_slice() == text.as_slice(),
-        None => false,
+        Some(text) if text.as_slice() == versions.before.as_slice() => seen.old = "o",
+        Some(text) if text.as_slice() == versions.after.as_slice() => seen.new = "n",
+        _ => seen.other = "x",
     }
 }
 
-/// Adds what an image opens as.
-fn add_image(
-    seen: &mut Seen,
+/// What an image holds that a stop behind so many calls may leave.
+fn held_by(
     alloc: Global,
-    image: Bytes,
-    versions: &Versions,
-) -> Result<(), Memory> {
-    let held = held_in(alloc, image, LIMITS)?;
-    if is_same(&held, &versions.before) {
-        seen.old = true;
-    } else if is_same(&held, &versions.after) {
-        seen.new = true;
-    } else {
-        seen.other = true;
-    }
-    Ok(())
+    watch: &Watch,
+    calls: usize,
+    pattern: usize,
+    fill: u8,
+) -> Result<Option<Bytes>, Memory> {
+    held_in(alloc, watch.image(alloc, calls, pattern, fill)?, LIMITS)
 }
 
 /// What the images open as that a stop behind so many calls may leave: with every write kept, with none, and with each one alone left out,
 /// where 0, 1 or 255 stands.
-fn seen_behind(
-    alloc: Global,
-    watch: &Watch,
-    versions: &Versions,
-    calls: usize,
-) -> Result<Seen, Memory> {
+fn seen_behind(out: &mut Transcript, watch: &Watch, versions: &Versions, calls: usize) -> Seen {
     let mut seen = Seen {
-        old: false,
-        new: false,
-        other: false,
+        old: "",
+        new: "",
+        other: "",
     };
     for fill in &[0u8, 1, 255] {
         for pattern in 0..watch.patterns(calls) {
-            let image = watch.image(alloc, calls, pattern, *fill)?;
-            add_image(&mut seen, alloc, image, versions)?;
+            match held_by(out.alloc(), watch, calls, pattern, *fill) {
+                Ok(held) => add_held(&mut seen, &held, versions),
+                Err(Memory) => out.note_short(),
+            }
         }
     }
-    Ok(seen)
-}
-
-fn push_seen(out: &mut Transcript, seen: Seen) {
-    let old = if seen.old { "o" } else { "" };
-    let new = if seen.new { "n" } else { "" };
-    let other = if seen.other { "x" } else { "" };
-    push_words(out, &[" ", old, new, other]);
+    seen
 }
 
 /// Adds what the images open as, before the first call and behind each write and each sync: o as before the change, n with it, x anything
@@ -88,10 +73,8 @@ pub(crate) fn push_moments(out: &mut Transcript, watch: &Watch, versions: &Versi
     push_word(out, " ");
     for calls in 0..count.saturating_add(1) {
         if watch.patterns(calls) > 0 {
-            match seen_behind(out.alloc(), watch, versions, calls) {
-                Ok(seen) => push_seen(out, seen),
-                Err(Memory) => out.note_short(),
-            }
+            let seen = seen_behind(out, watch, versions, calls);
+            push_words(out, &[" ", seen.old, seen.new, seen.other]);
         }
     }
     push_word(out, "\n");

@@ -7,95 +7,98 @@
 //! since the last such line, or `mark`, cost, `fail 3` that the third call from now fails, and `bytes 512 8` which bytes stand at a place.
 ghost use Rattle.test_disks.specs.Pairs.{IsPair};
 
-use crate::commits::bench::Bench;
-use cell_values::Memory;
+use crate::commits::bench::{Bench, WatchedDisk};
+use std::alloc::Global;
 use std::thread::Threads;
-use test_disks::{SessionPair, answer_of_pair, pair_over, push_counts};
-use test_kit::{Transcript, push_word, push_words};
+use test_disks::{Answer, answer_of_pair, count_of, push_counts};
+use test_kit::{Transcript, begin_answer};
 
-/// Adds a line with its answer.
-fn push_line<R: Threads + Sync>(
-    rt: &R,
-    out: &mut Transcript,
-    bench: &mut Bench,
-    pair: &mut SessionPair,
-    line: &str,
-)
-    requires { IsPair pair.old }
-    ensures { IsPair pair.new }
-{
-    push_words(out, &["> ", line, "\n"]);
-    if line == "counts" {
-        push_counts(out, pair);
-    } else if !bench.push_answer(out, line) {
-        answer_of_pair(rt, out.alloc(), pair, line).tell(out);
+/// What a line is about.
+#[derive(Clone, Copy)]
+enum Word {
+    Disk,
+    Opening,
+    Counts,
+    Calls,
+    Mark,
+    Failing,
+    Bytes,
+    Sessions,
+}
+
+/// What a line is about that begins with a word.
+fn word_of(word: &str) -> Word {
+    match word {
+        "new" | "format1" => Word::Disk,
+        "open" => Word::Opening,
+        "counts" => Word::Counts,
+        "calls" => Word::Calls,
+        "mark" => Word::Mark,
+        "fail" => Word::Failing,
+        "bytes" => Word::Bytes,
+        _ => Word::Sessions,
     }
 }
 
-/// Adds each line with its answer.
-fn push_steps<R: Threads + Sync>(
+/// What a line is answered that makes a disk, opens the store anew, or is a step of sessions.
+fn answer_of<R: Threads + Sync>(
     rt: &R,
-    out: &mut Transcript,
+    alloc: Global,
     bench: &mut Bench,
-    pair: &mut SessionPair,
-    steps: &str,
-)
-    requires { IsPair pair.old }
+    word: Word,
+    line: &str,
+) -> Answer
+    requires { IsPair bench.old.pair }
+    ensures { IsPair bench.new.pair }
+{
+    match word {
+        Word::Disk => bench.renew(alloc, line),
+        Word::Opening => bench.reopen(alloc),
+        _ => answer_of_pair(rt, alloc, &mut bench.pair, line),
+    }
+}
+
+/// Adds the answer to a line about the disk.
+fn push_told(out: &mut Transcript, disk: &mut WatchedDisk, word: Word, text: &str) {
+    match word {
+        Word::Calls => disk.push_calls(out),
+        Word::Failing => disk.watch.fail(u64::from(count_of(text))),
+        Word::Bytes => disk.push_bytes(out, text),
+        _ => disk.mark(),
+    }
+}
+
+/// Adds the answer to a line.
+fn push_answer<R: Threads + Sync>(rt: &R, out: &mut Transcript, bench: &mut Bench, line: &str)
+    requires { IsPair bench.old.pair }
+    ensures { IsPair bench.new.pair }
+{
+    let (word, text) = line.split_once(' ').unwrap_or((line, ""));
+    let word = word_of(word);
+    match word {
+        Word::Counts => push_counts(out, &mut bench.pair),
+        Word::Calls | Word::Mark | Word::Failing | Word::Bytes => {
+            push_told(out, &mut bench.disk, word, text);
+        }
+        _ => answer_of(rt, out.alloc(), bench, word, line).tell(out),
+    }
+}
+
+/// Adds each line, with its answer.
+fn push_steps<R: Threads + Sync>(rt: &R, out: &mut Transcript, bench: &mut Bench, steps: &str)
+    requires { IsPair bench.old.pair }
 {
     for line in steps.lines() {
-        push_line(rt, out, bench, pair, line);
-    }
-}
-
-/// Opens the store for a line, and adds that line and those behind it, with their answers.
-fn push_store<R: Threads + Sync>(
-    rt: &R,
-    out: &mut Transcript,
-    bench: &mut Bench,
-    line: &str,
-    steps: &str,
-) {
-    push_words(out, &["> ", line, "\n"]);
-    match pair_over(out.alloc(), &bench.watch, bench.limits) {
-        Ok(mut pair) => {
-            push_word(out, "ok\n");
-            push_steps(rt, out, bench, &mut pair, steps);
+        if begin_answer(out, line) {
+            push_answer(rt, out, bench, line);
         }
-        Err(answer) => answer.tell(out),
     }
 }
 
-/// Adds the lines behind the one that makes the disk, with their answers. Each line of `open` opens a store anew.
-fn push_stores<R: Threads + Sync>(
-    rt: &R,
-    out: &mut Transcript,
-    bench: &mut Bench,
-    line: &str,
-    steps: &str,
-) {
-    let mut is_first = true;
-    for steps in steps.split("open\n") {
-        let opening = if is_first { line } else { "open" };
-        push_store(rt, out, bench, opening, steps);
-        is_first = false;
-    }
-}
-
-/// Adds a title, and the lines behind it, with their answers.
-fn push_run<R: Threads + Sync>(rt: &R, out: &mut Transcript, title: &str, lines: &str) {
-    push_words(out, &["## ", title, "\n"]);
-    let (line, steps) = lines.split_once('\n').unwrap_or((lines, ""));
-    match Bench::of(out.alloc(), line) {
-        Ok(mut bench) => push_stores(rt, out, &mut bench, line, steps),
-        Err(Memory) => out.note_short(),
-    }
-}
-
-/// Adds the lines of a text with their answers.
+/// Adds the lines of a text with their answers. Until a line makes a disk there is one with an empty database.
 pub(crate) fn push_runs<R: Threads + Sync>(rt: &R, out: &mut Transcript, text: &str) {
-    for run in text.split("## ") {
-        if let Some((title, lines)) = run.split_once('\n') {
-            push_run(rt, out, title, lines);
-        }
+    match Bench::of(out.alloc(), "new 64 100") {
+        Ok(mut bench) => push_steps(rt, out, &mut bench, text),
+        Err(answer) => answer.tell(out),
     }
 }
