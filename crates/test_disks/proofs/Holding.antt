@@ -3,6 +3,7 @@ use Rattle.std.proofs.Common.{◌≡◌, ◌∙◌, ℕ, Bool, true, false, not,
 use Rattle.std.specs.List.{list_any}
 use Rattle.std.proofs.lemmas.Bool.{cases_lt, eq-eqb, or_from}
 use Rattle.std.proofs.lemmas.List.Folds.{list_any-append}
+use Rattle.std.proofs.lemmas.Option.{none-some, same_Some}
 use Rattle.afl_outside.specs.Counts.{risen}
 use Rattle.afl_outside.specs.Disk.{DiskState}
 use Rattle.event_core.specs.declared.entry.Entry.{Entry}
@@ -22,6 +23,7 @@ use Rattle.store_state.specs.Standings.{Standing, with_entries as store_entries}
 use Rattle.test_quiet.specs.declared.holds.Hold.{Hold}
 use Rattle.test_quiet.specs.declared.holds.Hold.TheVariants as hold
 use Rattle.test_disks.specs.Holds.{HasNoPins, IsHold, IsPinOf, IsUntried, LeavesAll, LeavesOthers}
+use Rattle.test_disks.specs.Inner.Pins.{pin_in}
 
 -- ---- one more entry
 
@@ -163,9 +165,6 @@ notes_leave_all old new session before after n = elim (cases_lt new.faults (rise
 ]
 
 -- what is left to all is left of each open pin
-pub open_outlasts : (old new : LedgerState) (session : ℕ) (pinned : Pinned) → LeavesAll old new → IsPinOf old session pinned → IsPinOf new session pinned
-open_outlasts old new session pinned f p = f session (hold.Tried pinned) p
-
 pub still_open : (old new : LedgerState) (pinned : Pinned) → LeavesAll old new → IsOpenPin old pinned → AreStored pinned.names → IsOpenPin new pinned
 still_open old new pinned f o stored = (f pinned.session (hold.Tried pinned) (record { its = refl; begun = o; stored = stored })).begun
 
@@ -189,6 +188,16 @@ untried_of ledger session held pinned e h = subst (IsHold ledger session) e h
 
 pub tried_of : (ledger : LedgerState) (session : ℕ) (held : Hold) (pinned : Pinned) → held ≡ hold.Tried pinned → IsHold ledger session held → IsPinOf ledger session pinned
 tried_of ledger session held pinned e h = subst (IsHold ledger session) e h
+
+pub held_pin : (ledger : LedgerState) (session : ℕ) (held : Hold) (pinned : Pinned) → Some pinned ≡ pin_in held → IsHold ledger session held → IsPinOf ledger session pinned
+held_pin ledger session hold.Free pinned e h = absurd (none-some pinned (sym e))
+held_pin ledger session (hold.Pinned own) pinned e h = subst (IsPinOf ledger session) (sym (same_Some pinned own e)) h.pin
+held_pin ledger session (hold.Tried own) pinned e h = subst (IsPinOf ledger session) (sym (same_Some pinned own e)) h
+
+pub held_none : (ledger : LedgerState) (session : ℕ) (held : Hold) → None ≡ pin_in held → IsHold ledger session held → IsHold ledger session hold.Free
+held_none ledger session hold.Free e h = h
+held_none ledger session (hold.Pinned own) e h = absurd (none-some own e)
+held_none ledger session (hold.Tried own) e h = absurd (none-some own e)
 
 -- ---- steps of stores
 

@@ -1,6 +1,8 @@
 //! What the versions of a store hold.
-ghost use Rattle.std.specs.Prelude.{IfOk, IfSome};
+ghost use Rattle.std.specs.Prelude.{◌≡◌, ℕ, List, IfOk, IfSome, IsTrue};
+ghost use Rattle.arrayvec.specs.ArrayVec.{ArrayVec};
 ghost use Rattle.cell_values.specs.Schemas.{IsValid};
+ghost use Rattle.chunk_source.specs.Source.{is_among};
 ghost use Rattle.store_ledger.specs.Ledger.{IsOpenPin};
 ghost use Rattle.store_state.specs.Calls.{IsLeafOf};
 ghost use Rattle.test_quiet.specs.Cells.{IsRead};
@@ -9,12 +11,29 @@ ghost use Rattle.test_disks.specs.Holds.{LeavesAll};
 use afl_outside::Disk;
 use array_geom::Chunk;
 use array_store::Store;
-use cell_values::{Bytes, List, Memory};
+use cell_values::{Bytes, ChunkAt, List, Memory, copy_numbers};
 use logical_plan::Leaf;
 use std::alloc::Global;
 use store_ledger::Pinned;
 use store_state::ReadFault;
 use test_quiet::{add_read, lines_of};
+
+/// The number at a place among those that were listed; none past the last one.
+fn number_at(
+    numbers: Result<List<ChunkAt>, Memory>,
+    place: usize,
+) -> Result<Option<ChunkAt>, ReadFault>
+    ensures { (chunks : List (ArrayVec ℕ)) → IfOk numbers (λ numbers. numbers ≡ chunks)
+        → IfOk result (λ found. IfSome found (λ at. IsTrue (is_among at chunks))) }
+{
+    match numbers {
+        Ok(numbers) => match numbers.get(place) {
+            Some(at) => Ok(Some(copy_numbers(at))),
+            None => Ok(None),
+        },
+        Err(Memory) => Err(ReadFault::Memory),
+    }
+}
 
 /// The chunk at a place among those of a version; none past the last one.
 fn chunk_at<D: Disk>(
@@ -30,15 +49,14 @@ fn chunk_at<D: Disk>(
     ensures open { IsOpenPin store.new.ledger pinned.now }
     ensures all { LeavesAll store.old.ledger store.new.ledger }
 {
-    match store.listed(alloc, pinned, leaf) {
-        Ok(numbers) => match numbers.get(place) {
-            Some(at) => match store.read_chunk(alloc, pinned, leaf, at) {
-                Ok(chunk) => Ok(Some(chunk)),
-                Err(fault) => Err(fault),
-            },
-            None => Ok(None),
+    let numbers = store.listed(alloc, pinned, leaf);
+    match number_at(numbers, place) {
+        Ok(Some(at)) => match store.read_chunk(alloc, pinned, leaf, &at) {
+            Ok(chunk) => Ok(Some(chunk)),
+            Err(fault) => Err(fault),
         },
-        Err(Memory) => Err(ReadFault::Memory),
+        Ok(None) => Ok(None),
+        Err(fault) => Err(fault),
     }
 }
 

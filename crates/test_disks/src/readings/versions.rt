@@ -8,7 +8,7 @@ use afl_outside::Disk;
 use array_store::Store;
 use cell_values::{Bytes, Memory};
 use logical_plan::NameEntry;
-use std::alloc::Global;
+use std::alloc::{AllocError, Global};
 use store_ledger::{PinFault, Pinned};
 use store_state::ReadFault;
 use test_quiet::leaf_of;
@@ -28,10 +28,13 @@ fn push_head(
     between: &str,
     number: u32,
 ) -> Result<(), Memory> {
-    let tail = format!(in text.allocator(); "{between}{number}\n")?;
-    text.extend(before.as_bytes())
-        .and(text.extend(entry.name.as_slice()))
-        .and(text.extend(tail.as_bytes()))
+    match format!(in text.allocator(); "{between}{number}\n") {
+        Ok(tail) => text
+            .extend(before.as_bytes())
+            .and(text.extend(entry.name.as_slice()))
+            .and(text.extend(tail.as_bytes())),
+        Err(AllocError) => Err(Memory),
+    }
 }
 
 /// Adds a version's name, and then its cells.

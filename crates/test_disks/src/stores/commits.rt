@@ -147,7 +147,8 @@ pub(crate) fn once<R: Threads + Sync>(
     ensures own { IsHold store.new.ledger session Hold.Free }
     ensures others { LeavesOthers session store.old.ledger store.new.ledger }
 {
-    let (held, begun) = pinned(store, session, Hold::Free);
+    let mut held = Hold::Free;
+    let begun = pinned(store, session, &mut held);
     let (held, answer) = changed(rt, alloc, store, session, held, text);
     unpinned(store, session, held);
     if matches!(&begun, Answer::Done) {

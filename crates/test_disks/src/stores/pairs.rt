@@ -97,34 +97,31 @@ fn told_versions(alloc: Global, held: &Hold, word: &str) -> Answer {
     }
 }
 
+/// What a step of a session is answered that has this of the store.
 fn take_step<R: Threads + Sync>(
     rt: &R,
     alloc: Global,
     store: &mut Store<QuietDisk>,
     session: u32,
-    held: Hold,
+    held: &mut Hold,
     step: Step<'_>,
-) -> (Hold, Answer)
-    requires { IsHold store.old.ledger session held }
-    ensures own { IsHold store.new.ledger session result.0 }
+) -> Answer
+    requires { IsHold store.old.ledger session held.old }
+    ensures own { IsHold store.new.ledger session held.new }
     ensures others { LeavesOthers session store.old.ledger store.new.ledger }
 {
     match step {
         Step::Pin => pinned(store, session, held),
-        Step::Unpin => {
-            let answer = unpinned(store, session, held);
-            (Hold::Free, answer)
+        Step::Unpin => unpinned(store, session, replace(held, Hold::Free)),
+        Step::Change(text) => {
+            let had = replace(held, Hold::Free);
+            let (has, answer) = changed(rt, alloc, store, session, had, text.as_bytes());
+            *held = has;
+            answer
         }
-        Step::Change(text) => changed(rt, alloc, store, session, held, text.as_bytes()),
-        Step::Cells(word) => {
-            let answer = told_cells(alloc, store, session, &held, word);
-            (held, answer)
-        }
-        Step::Versions(word) => {
-            let answer = told_versions(alloc, &held, word);
-            (held, answer)
-        }
-        Step::Renew(_) => (held, Answer::Unknown),
+        Step::Cells(word) => told_cells(alloc, store, session, held, word),
+        Step::Versions(word) => told_versions(alloc, held, word),
+        Step::Renew(_) => Answer::Unknown,
     }
 }
 
@@ -140,18 +137,8 @@ fn answer_to<R: Threads + Sync>(
     ensures { IsPair pair.new }
 {
     match session {
-        0 => {
-            let held = replace(&mut pair.first, Hold::Free);
-            let (held, answer) = take_step(rt, alloc, &mut pair.store, 0, held, step);
-            pair.first = held;
-            answer
-        }
-        1 => {
-            let held = replace(&mut pair.second, Hold::Free);
-            let (held, answer) = take_step(rt, alloc, &mut pair.store, 1, held, step);
-            pair.second = held;
-            answer
-        }
+        0 => take_step(rt, alloc, &mut pair.store, 0, &mut pair.first, step),
+        1 => take_step(rt, alloc, &mut pair.store, 1, &mut pair.second, step),
         _ => Answer::Unknown,
     }
 }
@@ -170,8 +157,7 @@ fn create_one<R: Threads + Sync>(
     };
     match &pair.first {
         Hold::Free => once(rt, alloc, &mut pair.store, 0, text.as_bytes()),
-        Hold::Pinned(_) => Answer::HasPin,
-        Hold::Tried(_) => Answer::HasPin,
+        _ => Answer::HasPin,
     }
 }
 
@@ -195,6 +181,27 @@ fn create_all<R: Threads + Sync>(
     Answer::Done
 }
 
+/// What a line is.
+#[derive(Clone, Copy)]
+enum Line<'a> {
+    OfSession { session: u32, step: Step<'a> },
+    /// The numbers of arrays that are created.
+    Create(&'a str),
+    Reap,
+    Unknown,
+}
+
+fn line_of(line: &str) -> Line<'_> {
+    match step_of(line) {
+        Some((session, step)) => Line::OfSession { session, step },
+        None => match line.strip_prefix("create ") {
+            Some(range) => Line::Create(range),
+            None if line == "reap" => Line::Reap,
+            None => Line::Unknown,
+        },
+    }
+}
+
 /// What a line is answered, as `pin 0`, `change 0 TEXT`, `create 5 9` or `reap`.
 pub fn answer_of_pair<R: Threads + Sync>(
     rt: &R,
@@ -205,13 +212,18 @@ pub fn answer_of_pair<R: Threads + Sync>(
     requires { IsPair pair.old }
     ensures { IsPair pair.new }
 {
-    if let Some((session, step)) = step_of(line) {
-        return answer_to(rt, alloc, pair, session, step);
+    match line_of(line) {
+        Line::OfSession { session, step } => answer_to(rt, alloc, pair, session, step),
+        Line::Create(range) => create_all(rt, alloc, pair, range),
+        Line::Reap => reaped(&mut pair.store),
+        Line::Unknown => Answer::Unknown,
     }
-    match line.strip_prefix("create ") {
-        Some(range) => create_all(rt, alloc, pair, range),
-        None if line == "reap" => reaped(&mut pair.store),
-        None => Answer::Unknown,
+}
+
+/// Adds numbers, each with a text behind it.
+fn push_all(out: &mut Transcript, counts: &[(u64, &str)]) {
+    for (count, behind) in counts {
+        push_numbered(out, "", *count, behind);
     }
 }
 
@@ -223,7 +235,12 @@ pub fn push_counts(out: &mut Transcript, pair: &mut SessionPair)
     let free = pair.store.free_pages();
     let entries = pair.store.history().len() as u64;
     let notes = pair.store.notes();
-    push_numbered(out, "", u64::from(free), " pages free, ");
-    push_numbered(out, "", entries, " entries, ");
-    push_numbered(out, "", notes, " notes\n");
+    push_all(
+        out,
+        &[
+            (u64::from(free), " pages free, "),
+            (entries, " entries, "),
+            (notes, " notes\n"),
+        ],
+    );
 }

@@ -1,7 +1,8 @@
 //! Pins of sessions.
-ghost use Rattle.std.specs.Prelude.{ℕ, IfSome};
+ghost use Rattle.std.specs.Prelude.{◌≡◌, ℕ, IfSome};
 ghost use Rattle.store_ledger.specs.Ledger.{LedgerState};
 ghost use Rattle.test_disks.specs.Holds.{IsHold, IsPinOf, LeavesAll, LeavesOthers};
+ghost use Rattle.test_disks.specs.Inner.Pins.{pin_in};
 
 use afl_outside::Disk;
 use array_store::Store;
@@ -21,34 +22,36 @@ pub(crate) fn pin_of(held: &Hold) -> Option<&Pinned>
 }
 
 /// A session that has no pin begins to have one.
-pub(crate) fn pinned<D: Disk>(store: &mut Store<D>, session: u32, held: Hold) -> (Hold, Answer)
-    requires { IsHold store.old.ledger session held }
-    ensures own { IsHold store.new.ledger session result.0 }
+pub(crate) fn pinned<D: Disk>(store: &mut Store<D>, session: u32, held: &mut Hold) -> Answer
+    requires { IsHold store.old.ledger session held.old }
+    ensures own { IsHold store.new.ledger session held.new }
     ensures others { LeavesOthers session store.old.ledger store.new.ledger }
 {
     match held {
         Hold::Free => {
             store.names();
             match store.pin(session) {
-                Ok(pinned) => (Hold::Pinned(pinned), Answer::Done),
-                Err(PinFault::HistoryFull { entries }) => (
-                    Hold::Free,
-                    Answer::HistoryFull { entries },
-                ),
-                Err(PinFault::Memory) => (Hold::Free, Answer::Memory),
+                Ok(pinned) => {
+                    *held = Hold::Pinned(pinned);
+                    Answer::Done
+                }
+                Err(PinFault::HistoryFull { entries }) => Answer::HistoryFull { entries },
+                Err(PinFault::Memory) => Answer::Memory,
             }
         }
-        held => (held, Answer::HasPin),
+        _ => Answer::HasPin,
     }
 }
 
-fn ended<D: Disk>(store: &mut Store<D>, session: u32, pinned: Pinned) -> Answer
-    requires { IsHold store.old.ledger session (Hold.Tried pinned) }
-    ensures own { IsHold store.new.ledger session Hold.Free }
-    ensures others { LeavesOthers session store.old.ledger store.new.ledger }
+/// The pin of what a session had, if it had one.
+fn pin_in(held: Hold) -> Option<Pinned>
+    ensures { result ≡ pin_in held }
 {
-    store.unpin(pinned);
-    Answer::Done
+    match held {
+        Hold::Free => None,
+        Hold::Pinned(pinned) => Some(pinned),
+        Hold::Tried(pinned) => Some(pinned),
+    }
 }
 
 /// The pin of a session goes, if it has one.
@@ -57,10 +60,12 @@ pub(crate) fn unpinned<D: Disk>(store: &mut Store<D>, session: u32, held: Hold) 
     ensures own { IsHold store.new.ledger session Hold.Free }
     ensures others { LeavesOthers session store.old.ledger store.new.ledger }
 {
-    match held {
-        Hold::Free => Answer::HasNoPin,
-        Hold::Pinned(pinned) => ended(store, session, pinned),
-        Hold::Tried(pinned) => ended(store, session, pinned),
+    match pin_in(held) {
+        Some(pinned) => {
+            store.unpin(pinned);
+            Answer::Done
+        }
+        None => Answer::HasNoPin,
     }
 }
 

@@ -3,7 +3,6 @@ use Rattle.store_ledger.specs.Ledger.{is_tried}
 use Rattle.store_state.specs.At.{standing}
 use Rattle.test_disks.proofs.Holding.{begun_is_untried, pin_leaves, same_leaves_all}
 use Rattle.test_disks.specs.Holds.{IsHold}
-use Rattle.test_quiet.specs.declared.holds.Hold.TheVariants as hold
 use Rattle.test_disks.proofs.stores.pins.pinned.Goals as goal
 
 pub returns-in-Ok-clause-own : goal.returns-in-Ok-clause-own
@@ -15,13 +14,13 @@ pub returns-in-Ok-clause-others : goal.returns-in-Ok-clause-others
 returns-in-Ok-clause-others g c = pin_leaves (standing g.D.Disk.moment c.args.store.now) (standing g.D.Disk.moment c.pin.new.self) c.args.session c.in-Ok.ensures.ok
 
 pub returns-in-Err-HistoryFull-clause-own : goal.returns-in-Err-HistoryFull-clause-own
-returns-in-Err-HistoryFull-clause-own g c = same_leaves_all (standing g.D.Disk.moment c.args.store.now) (standing g.D.Disk.moment c.pin.new.self) c.in-Err-HistoryFull.ensures.err c.args.session hold.Free (subst (IsHold c.args.store.now.ledger c.args.session) c.in-Free.is c.requires)
+returns-in-Err-HistoryFull-clause-own g c = same_leaves_all (standing g.D.Disk.moment c.args.store.now) (standing g.D.Disk.moment c.pin.new.self) c.in-Err-HistoryFull.ensures.err c.args.session c.args.held.now c.requires
 
 pub returns-in-Err-HistoryFull-clause-others : goal.returns-in-Err-HistoryFull-clause-others
 returns-in-Err-HistoryFull-clause-others g c = λ session held e h. same_leaves_all (standing g.D.Disk.moment c.args.store.now) (standing g.D.Disk.moment c.pin.new.self) c.in-Err-HistoryFull.ensures.err session held h
 
 pub returns-in-Err-Memory-clause-own : goal.returns-in-Err-Memory-clause-own
-returns-in-Err-Memory-clause-own g c = same_leaves_all (standing g.D.Disk.moment c.args.store.now) (standing g.D.Disk.moment c.pin.new.self) c.in-Err-Memory.ensures.err c.args.session hold.Free (subst (IsHold c.args.store.now.ledger c.args.session) c.in-Free.is c.requires)
+returns-in-Err-Memory-clause-own g c = same_leaves_all (standing g.D.Disk.moment c.args.store.now) (standing g.D.Disk.moment c.pin.new.self) c.in-Err-Memory.ensures.err c.args.session c.args.held.now c.requires
 
 pub returns-in-Err-Memory-clause-others : goal.returns-in-Err-Memory-clause-others
 returns-in-Err-Memory-clause-others g c = λ session held e h. same_leaves_all (standing g.D.Disk.moment c.args.store.now) (standing g.D.Disk.moment c.pin.new.self) c.in-Err-Memory.ensures.err session held h
