@@ -1,2 +1,3 @@
+pub mod Inner
 pub use Rattle.logical_plan.specs.PlanSchema
 pub use Rattle.logical_plan.specs.Query

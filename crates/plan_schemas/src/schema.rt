@@ -3,6 +3,7 @@ ghost use Rattle.std.specs.Prelude.{◌≡◌, IfOk};
 ghost use Rattle.logical_plan.specs.Meaning.{Database, meaning};
 ghost use Rattle.logical_plan.specs.PlanSchema.{apply_schema, project_schema, subarray_schema, slice_schema};
 ghost use Rattle.logical_plan.specs.PlanSchema.{regrid_schema, window_schema, aggregate_schema, schema_of as query_schema};
+ghost use Rattle.plan_schemas.specs.Inner.Origins.{HasOrigin, schema_over};
 
 use crate::attributes::{attributes_of_aggregates, derived_attribute};
 use crate::dimensions::{dimensions_of_groups, free_dimensions, push_blocks, push_parts};
@@ -101,31 +102,68 @@ fn groups(
     })
 }
 
+/// Where the schema of a plan comes from.
+enum Origin<'a> {
+    /// It stands in the plan.
+    Own(&'a Schema),
+    /// Its last operator makes it of the schema of this source.
+    Source(&'a Plan),
+}
+
+fn origin_of(plan: &Plan) -> Origin<'_>
+    ensures { HasOrigin plan.now result }
+{
+    match &plan.node {
+        PlanNode::Build(schema, _) => Origin::Own(schema),
+        PlanNode::Literal(schema, _) => Origin::Own(schema),
+        PlanNode::Scan(leaf) => Origin::Own(&leaf.schema),
+        PlanNode::Filter(source, _) => Origin::Source(source),
+        PlanNode::Apply(source, _) => Origin::Source(source),
+        PlanNode::Project(source, _) => Origin::Source(source),
+        PlanNode::Between(source, _) => Origin::Source(source),
+        PlanNode::Subarray(source, _) => Origin::Source(source),
+        PlanNode::Slice(source, _) => Origin::Source(source),
+        PlanNode::Join(_, _, schema) => Origin::Own(schema),
+        PlanNode::CrossJoin(_, _, _, schema) => Origin::Own(schema),
+        PlanNode::Redimension(_, schema, _) => Origin::Own(schema),
+        PlanNode::Regrid(source, _, _) => Origin::Source(source),
+        PlanNode::Window(source, _, _) => Origin::Source(source),
+        PlanNode::Aggregate(source, _, _) => Origin::Source(source),
+    }
+}
+
+/// What the last operator of a plan makes of the schema of its source.
+fn schema_over(alloc: Global, plan: &Plan, source: Schema) -> Result<Schema, Memory>
+    ensures { IfOk result (λ schema. schema ≡ schema_over plan.now source) }
+{
+    match &plan.node {
+        PlanNode::Apply(_, values) => with_applied(source, values),
+        PlanNode::Project(_, places) => projection(source, places),
+        PlanNode::Subarray(_, area) => schema_of_part(source, area),
+        PlanNode::Slice(_, fixed) => schema_of_slice(source, fixed),
+        PlanNode::Regrid(_, sizes, aggregates) => regrid(source, sizes, aggregates),
+        PlanNode::Window(_, _, aggregates) => window(source, aggregates),
+        PlanNode::Aggregate(_, aggregates, places) => groups(alloc, source, aggregates, places),
+        PlanNode::Build(..)
+        | PlanNode::Literal(..)
+        | PlanNode::Scan(_)
+        | PlanNode::Filter(..)
+        | PlanNode::Between(..)
+        | PlanNode::Join(..)
+        | PlanNode::CrossJoin(..)
+        | PlanNode::Redimension(..) => Ok(source),
+    }
+}
+
 fn schema_within(alloc: Global, plan: &Plan) -> Result<Schema, Memory>
     ensures { IfOk result (λ schema. schema ≡ query_schema plan.now) }
 {
-    match &plan.node {
-        PlanNode::Build(schema, _)
-        | PlanNode::Literal(schema, _)
-        | PlanNode::Join(_, _, schema)
-        | PlanNode::CrossJoin(_, _, _, schema)
-        | PlanNode::Redimension(_, schema, _) => schema.copy(),
-        PlanNode::Scan(leaf) => leaf.schema.copy(),
-        PlanNode::Filter(source, _) | PlanNode::Between(source, _) => schema_within(alloc, source),
-        PlanNode::Apply(source, values) => with_applied(schema_within(alloc, source)?, values),
-        PlanNode::Project(source, places) => projection(schema_within(alloc, source)?, places),
-        PlanNode::Subarray(source, area) => schema_of_part(schema_within(alloc, source)?, area),
-        PlanNode::Slice(source, fixed) => schema_of_slice(schema_within(alloc, source)?, fixed),
-        PlanNode::Regrid(source, sizes, aggregates) => {
-            regrid(schema_within(alloc, source)?, sizes, aggregates)
-        }
-        PlanNode::Window(source, _, aggregates) => window(
-            schema_within(alloc, source)?,
-            aggregates,
-        ),
-        PlanNode::Aggregate(source, aggregates, places) => {
-            groups(alloc, schema_within(alloc, source)?, aggregates, places)
-        }
+    match origin_of(plan) {
+        Origin::Own(schema) => schema.copy(),
+        Origin::Source(source) => match schema_within(alloc, source) {
+            Ok(schema) => schema_over(alloc, plan, schema),
+            Err(Memory) => Err(Memory),
+        },
     }
 }
 

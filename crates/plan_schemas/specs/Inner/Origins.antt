@@ -1,0 +1,26 @@
+-- Where the schema of a plan comes from.
+use Rattle.std.specs.Prelude.{◌≡◌, ◌+◌}
+use Rattle.cell_values.specs.declared.schema.Schema.{Schema}
+use Rattle.logical_plan.specs.PlanSchema.{schema_of, apply_schema, project_schema, subarray_schema, slice_schema}
+use Rattle.logical_plan.specs.PlanSchema.{regrid_schema, window_schema, aggregate_schema}
+use Rattle.logical_plan.specs.Query.{Query, query_size, applied, projected, subarray, sliced, regridded, windowed, aggregated}
+use Rattle.plan_schemas.specs.declared.schema.Origin.{Origin}
+use Rattle.plan_schemas.specs.declared.schema.Origin.TheVariants.{Own, Source}
+
+-- what the last operator makes of the schema of its source, if it makes another one
+abbrev pub schema_over : Query → Schema → Schema
+schema_over (applied source values) schema = apply_schema values schema
+schema_over (projected source places) schema = project_schema places schema
+schema_over (subarray source area) schema = subarray_schema area schema
+schema_over (sliced source fixed) schema = slice_schema fixed schema
+schema_over (regridded source sizes gs) schema = regrid_schema sizes gs schema
+schema_over (windowed source reach gs) schema = window_schema gs schema
+schema_over (aggregated source gs places) schema = aggregate_schema gs places schema
+schema_over query schema = schema
+
+abbrev pub IsSource : Query → Query → Type 0
+IsSource query source = (query_size query ≡ query_size source + 1) × (schema_of query ≡ schema_over query (schema_of source))
+
+abbrev pub HasOrigin : Query → Origin → Type 0
+HasOrigin query (Own schema) = schema.now ≡ schema_of query
+HasOrigin query (Source source) = IsSource query source.now
