@@ -175,7 +175,8 @@ pub fn change_chunk<C: CellChange>(
     requires framed { HasFrame schema.now margins.now.items chunk.at.items }
     requires placed { IsPlaced schema.now.dimensions margins.now.items chunk }
     ensures made { IfOk result (IsMadeBy (cell_wise (C.changed change.now)) schema.now.dimensions margins.now.items chunk) }
-    ensures part { (rows : Items Row) → IsPart schema.now.dimensions margins.now.items rows chunk → IfOk result (IsPart schema.now.dimensions margins.now.items (cell_wise (C.changed change.now) rows)) }
+    ensures part { (rows : Items Row) → IsPart schema.now.dimensions margins.now.items rows chunk →
+        IfOk result (IsPart schema.now.dimensions margins.now.items (cell_wise (C.changed change.now) rows)) }
 {
     if all_stay(chunk.cells.form(), change) {
         Ok(chunk)

@@ -51,7 +51,8 @@ broken_or None rows = rows
 broken_or (Some broken) rows = Err broken
 
 -- rows one after the other: one breaks the array, or the same rows come of what is left, and those that land are counted
-pub record AreSteps (origins : List Origin) (bounds : Bounds) (values : List Origin) (made rows : List Row) (broken : Option Broken) (made' : List Row) (counts : BTreeMap (ArrayVec ℤ) ℕ) : Type 0 where
+pub record AreSteps (origins : List Origin) (bounds : Bounds) (values : List Origin) (made rows : List Row)
+    (broken : Option Broken) (made' : List Row) (counts : BTreeMap (ArrayVec ℤ) ℕ) : Type 0 where
   pub same : (more : List Row) → continued values made (landed origins bounds true (rows ++ more) (targets_of made))
       ≡ broken_or broken (continued values made' (landed origins bounds true more (targets_of made')))
   pub counts_of : broken ≡ None → AreCountsOf origins (targets_of made') counts

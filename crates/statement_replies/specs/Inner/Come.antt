@@ -52,7 +52,8 @@ pub record AreMade (names : Names) (old new : SourceState) (change : Change) (as
   pub cause : Answers old new result
 
 -- what a change is answered that has these chunks or this fault: nothing more is asked for
-pub record IsAnswered (style : Style) (names : Names) (old new : SourceState) (change : Change) (target : Asking) (made : Result (Option Changed) Broken) (result : Result (Result Offer Reply) ExecFault) : Type 0 where
+pub record IsAnswered (style : Style) (names : Names) (old new : SourceState) (change : Change) (target : Asking)
+    (made : Result (Option Changed) Broken) (result : Result (Result Offer Reply) ExecFault) : Type 0 where
   pub kind : HasItsNames change → IsTypedFor names change → HasChunks change made
       → IfOk result (λ offer. HasOutcomeKind style names (Ok (AChange change)) (outcome_with change offer))
   pub told : (db : Database) → names_of db ≡ names → IfOk made (λ changed. IsTracedIn names old change target db) → IsMadeIn db change made

@@ -145,7 +145,8 @@ fn add_run(
     requires room { length at.now.items < 6 }
     requires grid { IsGrid grid.now }
     requires inside { (c : Coordinate) → is_between (low.now ∷ []) (high.now ∷ []) c ≡ true → is_in_grid grid.now.low.items grid.now.lengths.items (at.now.items ++ c) ≡ true }
-    ensures { OnOk result (TakesRows grid.now.low.items grid.now.lengths.items (rows_between (built_row attributes.now value.now) at.now.items (low.now ∷ []) (high.now ∷ [])) chunk.old chunk.new) }
+    ensures { OnOk result (TakesRows grid.now.low.items grid.now.lengths.items
+        (rows_between (built_row attributes.now value.now) at.now.items (low.now ∷ []) (high.now ∷ [])) chunk.old chunk.new) }
 {
     let first = first_place(grid, at, low, high);
     let mut next = copy_coord(at);
@@ -214,7 +215,8 @@ fn add_first(
     requires room { length at.now.items + length lo.now < 6 }
     requires grid { IsGrid grid.now }
     requires inside { (c : Coordinate) → is_between (low.now ∷ lo.now) (high.now ∷ hi.now) c ≡ true → is_in_grid grid.now.low.items grid.now.lengths.items (at.now.items ++ c) ≡ true }
-    ensures { OnOk result (TakesRows grid.now.low.items grid.now.lengths.items (rows_between (built_row attributes.now value.now) at.now.items (low.now ∷ lo.now) (high.now ∷ hi.now)) chunk.old chunk.new) }
+    ensures { OnOk result (TakesRows grid.now.low.items grid.now.lengths.items
+        (rows_between (built_row attributes.now value.now) at.now.items (low.now ∷ lo.now) (high.now ∷ hi.now)) chunk.old chunk.new) }
 {
     if are_last(lo, hi) {
         add_run(alloc, attributes, value, grid, at, low, high, chunk)
