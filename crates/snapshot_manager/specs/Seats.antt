@@ -1,12 +1,11 @@
 -- A store that is shared, and its seats, as contracts see them.
-use Rattle.std.specs.Prelude.{◌≡◌, ◌<◌, ℕ, not, List, [], ◌∷◌, ◌++◌, length, slice_get, slice_index_or, All, IsTrue, Some}
+use Rattle.std.specs.Prelude.{◌≡◌, ◌<◌, ℕ, not, List, [], length, slice_index_or, All, IsTrue}
 use Rattle.std.specs.List.{list_all}
 use Rattle.afl_outside.specs.Disk.{Moment}
 use Rattle.turn_lock.specs.Owners.{ExtendsByOthers}
 use Rattle.turn_lock.specs.Inner.Lent.{value_of}
 use Rattle.turn_lock.specs.Seats.{claim_of, first_value, seat_count, seat_number, seen_by, IsSeatOf as IsLockSeatOf, IsIdle as HasNoTurn, HasTurn as HasLockTurn}
 use Rattle.turn_lock.specs.declared.turns.lock.TurnLock.{TurnLock}
-use Rattle.turn_lock.specs.declared.turns.seat.LockSeat.{LockSeat}
 use Rattle.turn_lock.specs.declared.turns.seat.Turn.{Turn}
 use Rattle.turn_lock.specs.declared.turns.view.Claim.{Claim}
 use Rattle.event_core.specs.Allowed.{is_pinned}
@@ -104,11 +103,6 @@ module _ {D : Type 0} where
   -- they are seats of this store, and none has a turn
   abbrev pub AreIdleSeats : Shared D → List (Seat D) → Type 0
   AreIdleSeats shared seats = All (λ seat. IsSeatOf shared seat × IsIdle seat) seats
-
-  -- one more is made of the first of the lock's seats, for a session that has done nothing yet
-  abbrev pub AddsFirst : List (LockSeat (StoreParts D) Event) → List (Seat D) → List (Seat D) → Type 0
-  AddsFirst turn_seats old new = (seat : LockSeat (StoreParts D) Event) × (slice_get turn_seats 0 ≡ Some seat)
-      × (new ≡ old ++ record { turn_seat = seat; entries = 0; last = 0; reads = 0 } ∷ [])
 
   -- its session, with what it has seen
   abbrev pub claim_in : Seat D → Claim Event
