@@ -1,5 +1,5 @@
 //! Chains: bytes in pages each of which names the next one.
-ghost use Rattle.std.specs.Prelude.{◌≡◌, ℕ, ◌+◌, ◌-◌, ◌≤◌, ◌<◌, ◌++◌, List, length, take, drop, slice_index, IfSome, IfOk, OnOk, IsErrOf};
+ghost use Rattle.std.specs.Prelude.{◌≡◌, ℕ, ◌+◌, ◌-◌, ◌≤◌, ◌<◌, ◌++◌, ◌∷◌, [], List, length, take, drop, slice_index, IfSome, IfOk, OnOk, IsErrOf};
 ghost use Rattle.afl_outside.specs.Disk.{FailsWithCause};
 ghost use Rattle.std.specs.Int.{w32, to_le_bytes, from_le_bytes};
 ghost use Rattle.std.specs.FinSet.{from_list};
@@ -13,7 +13,7 @@ use crate::fault::{OpenCause, Stopped};
 use crate::page::{PAGE, put_front, read_page, write_page};
 use crate::page_set::PageSet;
 use afl_outside::{Disk, Failed};
-use cell_values::{Bytes, List};
+use cell_values::{Bytes, List, Memory};
 use std::alloc::Global;
 
 /// The bytes of the number with which a page of a chain begins.
@@ -62,8 +62,7 @@ pub fn read_chain<D: Disk>(
             Ok(next) => next,
             Err(cause) => return Err(cause),
         };
-        bytes.extend(piece.split_at(LINK).1)?;
-        pages.push(link.page)?;
+        keep_page(&mut pages, &mut bytes, link.page, &piece)?;
         link = Link {
             holder: link.page,
             page: next,
@@ -75,6 +74,21 @@ pub fn read_chain<D: Disk>(
     }
     bytes.truncate(count as usize);
     Ok((bytes, pages))
+}
+
+/// Adds a page to those of a chain, and its content to the bytes.
+fn keep_page(
+    pages: &mut List<u32>,
+    bytes: &mut Bytes,
+    page: u32,
+    piece: &[u8],
+) -> Result<(), Memory>
+    requires { 4 ≤ length piece.now }
+    ensures pages { OnOk result (pages.new ≡ pages.old ++ page ∷ []) }
+    ensures bytes { OnOk result (bytes.new ≡ bytes.old ++ drop 4 piece.now) }
+{
+    bytes.extend(piece.split_at(LINK).1)?;
+    pages.push(page)
 }
 
 /// Reads the page that a link names into a piece, adds it to the pages in use, and answers its own link.

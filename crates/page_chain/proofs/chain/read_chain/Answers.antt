@@ -10,6 +10,9 @@ use Rattle.page_chain.proofs.chain.read_chain.Goals as goal
 pub follow-requires : goal.follow-requires
 follow-requires g c = omega (arith, size_is)
 
+pub keep_page-requires : goal.keep_page-requires
+keep_page-requires g c = omega (arith, size_is)
+
 pub links-init : goal.links-init
 links-init g c = record {
   reads = reads_none (g.D.Disk.moment c.args.disk.now).state _ _ (g.met.D.Disk.only_now c.args.disk.now);
@@ -34,16 +37,16 @@ returns-in-Err-clause-reads g c = reads_on _ _ _ _ _ _ _ _ _ c.links.invariant.r
 pub links-preserved : goal.links-preserved
 links-preserved g c =
     let so_far = c.links.invariant in
-    let longer : length c.push.new.self ≡ length c.links.pages + 1 = ap length c.in_ok-push.ensures.ok ∙ length-append c.links.pages _ in
-    let more : c.extend.new.self ≡ c.links.bytes ++ drop 4 c.follow.new.piece = c.in_ok-extend.ensures.ok ∙ ap (λ (xs : List ℕ). c.links.bytes ++ xs) c.split_at.ensures.back in
+    let longer : length c.keep_page.new.pages ≡ length c.links.pages + 1 = ap length c.in_ok-keep_page.ensures.pages ∙ length-append c.links.pages _ in
+    let more = c.in_ok-keep_page.ensures.bytes in
     let full : length (drop 4 c.follow.new.piece) ≡ page_size - 4 = omega (arith, size_is, length-drop 4 c.follow.new.piece) in
     record {
       reads = reads_on _ _ _ _ _ _ _ _ _ so_far.reads c.in-Ok.ensures.reads;
-      size = one_more_full (content_size page_size) c.links.bytes (drop 4 c.follow.new.piece) c.extend.new.self (length c.links.pages) more full so_far.size ∙ ap (λ (n : ℕ). (page_size - 4) * n) (sym longer);
+      size = one_more_full (content_size page_size) c.links.bytes (drop 4 c.follow.new.piece) c.keep_page.new.bytes (length c.links.pages) more full so_far.size ∙ ap (λ (n : ℕ). (page_size - 4) * n) (sym longer);
       due = omega (arith, longer, so_far.due);
       told = chain_goes_on (g.D.Disk.moment c.args.disk.now).state.seen (g.D.Disk.moment c.links.disk).state.seen c.args.taken.now c.args.first.holder c.args.first.page c.args.count
-          c.links.used c.follow.new.used c.links.link.holder c.links.link.page c.links.due c.in-Ok.next c.links.pages c.links.bytes c.follow.new.piece c.push.new.self c.extend.new.self (c.links.due - 1)
-          so_far.reads.seen (omega arith, refl) c.in_ok-push.ensures.ok more c.in-Ok.ensures.exact so_far.told;
+          c.links.used c.follow.new.used c.links.link.holder c.links.link.page c.links.due c.in-Ok.next c.links.pages c.links.bytes c.follow.new.piece c.keep_page.new.pages c.keep_page.new.bytes (c.links.due - 1)
+          so_far.reads.seen (omega arith, refl) c.in_ok-keep_page.ensures.pages more c.in-Ok.ensures.exact so_far.told;
     }
 
 pub returns-then-link-ne0-clause-exact : goal.returns-then-link-ne0-clause-exact
@@ -57,11 +60,8 @@ returns-then-count-eq0-clause-reads g c = reads_none (g.D.Disk.moment c.args.dis
 pub returns-then-link-ne0-clause-fault : goal.returns-then-link-ne0-clause-fault
 returns-then-link-ne0-clause-fault g c = λ is. wrong_no_fault _ is
 
-pub returns-in_err-extend-clause-reads : goal.returns-in_err-extend-clause-reads
-returns-in_err-extend-clause-reads g c = reads_on _ _ _ _ _ _ _ _ _ c.links.invariant.reads c.in-Ok.ensures.reads
-
-pub returns-in_err-push-clause-reads : goal.returns-in_err-push-clause-reads
-returns-in_err-push-clause-reads g c = reads_on _ _ _ _ _ _ _ _ _ c.links.invariant.reads c.in-Ok.ensures.reads
+pub returns-in_err-keep_page-clause-reads : goal.returns-in_err-keep_page-clause-reads
+returns-in_err-keep_page-clause-reads g c = reads_on _ _ _ _ _ _ _ _ _ c.links.invariant.reads c.in-Ok.ensures.reads
 
 pub returns-clause-fault : goal.returns-clause-fault
 returns-clause-fault g c = λ is. ok_no_fault _ _ is
