@@ -7,12 +7,13 @@ ghost use Rattle.chunk_source.specs.Source.{Reads, listed, Keeps, AsksFront, ask
 ghost use Rattle.chunk_source.specs.Faults.{Answers};
 ghost use Rattle.chunk_source.specs.Known.{IsPartIn};
 ghost use Rattle.chunk_source.specs.Read.{IsRead};
+ghost use Rattle.chunk_source.specs.Inner.Alone.{stand_alone};
 
 use crate::leaves::parts::arrays::{part_array, stand_alone};
 use crate::reading::read_chunks;
 use crate::{ChunkSource, ExecFault};
-use array_geom::{ChunkedArray, chunks_meeting};
-use cell_values::Bounds;
+use array_geom::{ChunkAt, ChunkedArray, chunks_meeting};
+use cell_values::{Bounds, List, Memory, Schema};
 use logical_plan::Leaf;
 use std::alloc::Global;
 
@@ -39,8 +40,23 @@ pub fn read_part<S: ChunkSource>(
     ensures start { S.start source.new ≡ S.start source.old }
 {
     let stored = source.listed(leaf)?;
-    let wanted = chunks_meeting(alloc, &leaf.schema, area, stored.as_slice())?;
-    let alone = stand_alone(&leaf.schema, stored.as_slice(), wanted.as_slice());
+    let (wanted, alone) = wanted_chunks(alloc, &leaf.schema, area, stored)?;
     let chunks = read_chunks(source, number, leaf, wanted.as_slice())?;
     Ok(part_array(&leaf.schema, chunks, alone)?)
+}
+
+// Those of the stored chunks whose cores meet a box, and whether these stand alone.
+fn wanted_chunks(
+    alloc: Global,
+    schema: &Schema,
+    area: &Bounds,
+    stored: List<ChunkAt>,
+) -> Result<(List<ChunkAt>, bool), Memory>
+    requires { IsValid schema.now }
+    ensures wanted { IfOk result (λ found. found.0 ≡ wanted_of schema.now.dimensions area.now stored) }
+    ensures alone { IfOk result (λ found. found.1 ≡ stand_alone schema.now.dimensions stored found.0) }
+{
+    let wanted = chunks_meeting(alloc, schema, area, stored.as_slice())?;
+    let alone = stand_alone(schema, stored.as_slice(), wanted.as_slice());
+    Ok((wanted, alone))
 }

@@ -13,24 +13,20 @@ use Rattle.chunk_source.proofs.leaves.parts.reading.read_part.Goals as goal
 pub read_chunks-requires-clause-listed : goal.read_chunks-requires-clause-listed
 read_chunks-requires-clause-listed g c =
     let leaf = c.args.leaf.now in
-    wanted_among (g.S.ChunkSource.state c.args.source.now) (g.S.ChunkSource.state c.listed.new.self) leaf (λ chunk. core_meets leaf.schema.dimensions c.args.area.now chunk.items) c.as_slice.result.now c.as_slice-4.result.now
-    c.in_ok-stored.ensures.kept (c.as_slice.ensures ∙ c.in_ok-stored.ensures.listed) (c.as_slice-4.ensures ∙ c.in_ok-wanted.ensures)
+    wanted_among (g.S.ChunkSource.state c.args.source.now) (g.S.ChunkSource.state c.listed.new.self) leaf (λ chunk. core_meets leaf.schema.dimensions c.args.area.now chunk.items) c.in_ok-stored.stored c.as_slice.result.now
+    c.in_ok-stored.ensures.kept c.in_ok-stored.ensures.listed (c.as_slice.ensures ∙ c.in_ok-wanted.ensures.wanted)
 
 pub part_array-requires-clause-chunks : goal.part_array-requires-clause-chunks
-part_array-requires-clause-chunks g c = valid_stored c.args.leaf.now.schema c.as_slice-4.result.now c.in_ok-chunks.chunks c.in_ok-chunks.ensures.stored
+part_array-requires-clause-chunks g c = valid_stored c.args.leaf.now.schema c.as_slice.result.now c.in_ok-chunks.chunks c.in_ok-chunks.ensures.stored
 
 pub returns-clause-told : goal.returns-clause-told
 returns-clause-told g c db tells =
     let leaf = c.args.leaf.now in
-    let dims = leaf.schema.dimensions in
     let stored : List (ArrayVec ℕ) = c.in_ok-stored.stored in
     let wanted : List (ArrayVec ℕ) = c.in_ok-wanted.wanted in
-    let found : wanted ≡ wanted_of dims c.args.area.now stored = c.in_ok-wanted.ensures ∙ ap (wanted_of dims c.args.area.now) c.as_slice.ensures in
-    let alone : c.stand_alone-alone.result ≡ stand_alone dims stored wanted
-    = c.stand_alone-alone.ensures ∙ ap (λ (z : List (ArrayVec ℕ)). stand_alone dims z c.as_slice-3.result.now) c.as_slice-2.ensures ∙ ap (stand_alone dims stored) c.as_slice-3.ensures in
-    told_by_calls db leaf c.args.area.now (listed (g.S.ChunkSource.state c.args.source.now) leaf) stored wanted c.in_ok-chunks.chunks c.stand_alone-alone.result c.in_ok-part_array.field-0
-    c.in_ok-stored.ensures.listed found alone c.requires.valid c.in_ok-stored.ensures.rising
-    (subst (λ (z : List (ArrayVec ℕ)). AllZip (IsStored leaf.schema) z c.in_ok-chunks.chunks) c.as_slice-4.ensures c.in_ok-chunks.ensures.stored)
+    told_by_calls db leaf c.args.area.now (listed (g.S.ChunkSource.state c.args.source.now) leaf) stored wanted c.in_ok-chunks.chunks c.in_ok-wanted.alone c.in_ok-part_array.field-0
+    c.in_ok-stored.ensures.listed c.in_ok-wanted.ensures.wanted c.in_ok-wanted.ensures.alone c.requires.valid c.in_ok-stored.ensures.rising
+    (subst (λ (z : List (ArrayVec ℕ)). AllZip (IsStored leaf.schema) z c.in_ok-chunks.chunks) c.as_slice.ensures c.in_ok-chunks.ensures.stored)
     (c.in_ok-stored.ensures.told db tells) (c.in_ok-chunks.ensures.told db ((c.in_ok-stored.ensures.kept.tells db).1 tells))
     c.in_ok-part_array.ensures.read c.in_ok-part_array.ensures.alone c.in_ok-part_array.ensures.together
 
@@ -44,14 +40,14 @@ pub returns-in_err-chunks-clause-front : goal.returns-in_err-chunks-clause-front
 returns-in_err-chunks-clause-front g c =
     let leaf = c.args.leaf.now in
     on_err _ _ (front_after _ _ (g.S.ChunkSource.state c.args.source.now) (g.S.ChunkSource.state c.listed.new.self) _
-    (ap (map (asks c.args.number)) (c.as_slice-4.ensures ∙ c.in_ok-wanted.ensures ∙ ap (wanted_of leaf.schema.dimensions c.args.area.now) (c.as_slice.ensures ∙ c.in_ok-stored.ensures.listed))) c.in_ok-stored.ensures.asked
+    (ap (map (asks c.args.number)) (c.as_slice.ensures ∙ c.in_ok-wanted.ensures.wanted ∙ ap (wanted_of leaf.schema.dimensions c.args.area.now) c.in_ok-stored.ensures.listed)) c.in_ok-stored.ensures.asked
     c.in_err-chunks.ensures.front)
 
 pub returns-in_err-part_array-clause-front : goal.returns-in_err-part_array-clause-front
 returns-in_err-part_array-clause-front g c =
     let leaf = c.args.leaf.now in
     on_err _ _ (front_after _ _ (g.S.ChunkSource.state c.args.source.now) (g.S.ChunkSource.state c.listed.new.self) _
-    (ap (map (asks c.args.number)) (c.as_slice-4.ensures ∙ c.in_ok-wanted.ensures ∙ ap (wanted_of leaf.schema.dimensions c.args.area.now) (c.as_slice.ensures ∙ c.in_ok-stored.ensures.listed))) c.in_ok-stored.ensures.asked
+    (ap (map (asks c.args.number)) (c.as_slice.ensures ∙ c.in_ok-wanted.ensures.wanted ∙ ap (wanted_of leaf.schema.dimensions c.args.area.now) c.in_ok-stored.ensures.listed)) c.in_ok-stored.ensures.asked
     (asked_all _ _ _ c.in_ok-chunks.ensures.asked))
 
 pub read_chunks-requires-clause-reads : goal.read_chunks-requires-clause-reads
@@ -62,7 +58,7 @@ pub returns-clause-asked : goal.returns-clause-asked
 returns-clause-asked g c =
     let wanted = wanted_of c.args.leaf.now.schema.dimensions c.args.area.now in
     asked_after _ _ (g.S.ChunkSource.state c.args.source.now) (g.S.ChunkSource.state c.listed.new.self) (g.S.ChunkSource.state c.read_chunks.new.source)
-    (ap (map (asks c.args.number)) (c.as_slice-4.ensures ∙ c.in_ok-wanted.ensures ∙ ap wanted (c.as_slice.ensures ∙ c.in_ok-stored.ensures.listed)))
+    (ap (map (asks c.args.number)) (c.as_slice.ensures ∙ c.in_ok-wanted.ensures.wanted ∙ ap wanted c.in_ok-stored.ensures.listed))
     c.in_ok-stored.ensures.asked c.in_ok-chunks.ensures.asked
 
 pub returns-clause-kept : goal.returns-clause-kept
