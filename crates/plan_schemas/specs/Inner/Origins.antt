@@ -18,9 +18,11 @@ schema_over (windowed source reach gs) schema = window_schema gs schema
 schema_over (aggregated source gs places) schema = aggregate_schema gs places schema
 schema_over query schema = schema
 
+-- a plan is one operator larger than its source, and its schema is what that operator makes of the source's
 abbrev pub IsSource : Query → Query → Type 0
 IsSource query source = (query_size query ≡ query_size source + 1) × (schema_of query ≡ schema_over query (schema_of source))
 
+-- where the schema of a plan comes from: it is given itself, or its source is
 abbrev pub HasOrigin : Query → Origin → Type 0
 HasOrigin query (Own schema) = schema.now ≡ schema_of query
 HasOrigin query (Source source) = IsSource query source.now
