@@ -40,48 +40,41 @@ fn push_table<R: AllocGlobal + Threads + Wait + Clock + Sync>(
     push_commit_table(rt, out, title, text);
 }
 
-/// Prints the title of a table, and what comes of its lines.
-fn tell_table<R: AllocGlobal + Print + Threads + Wait + Clock + Sync>(
+/// Adds for each table its title, and what comes of its lines.
+fn push_tables<R: AllocGlobal + Threads + Wait + Clock + Sync>(
     rt: &R,
-    title: &[u8],
-    lines: &[u8],
-) -> Result<()> {
-    let title = from_utf8(title).unwrap_or("");
-    let mut out = Transcript::new(rt.alloc());
-    push_table(rt, &mut out, title, lines);
-    match out.finish() {
-        Ok(text) => {
-            let printed = print!(rt; "{text}");
-            drop(text);
-            Ok(printed?)
-        }
-        Err(Memory) => Ok(println!(rt; "no memory")?),
-    }
-}
-
-/// Prints what comes of each table.
-fn tell_tables<R: AllocGlobal + Print + Threads + Wait + Clock + Sync>(
-    rt: &R,
+    out: &mut Transcript,
     text: &[u8],
-) -> Result<()> {
+) {
     let mut title: &[u8] = &[];
     let mut start = 0usize;
     let mut end = 0usize;
     for line in text.split_inclusive(|byte| *byte == b'\n') {
         let behind = end.saturating_add(line.len());
         if let Some(next) = line.strip_prefix(b"### ".as_slice()) {
-            tell_table(rt, title, text.get(start..end).unwrap_or(&[]))?;
+            let name = from_utf8(title).unwrap_or("");
+            push_table(rt, out, name, text.get(start..end).unwrap_or(&[]));
             title = next.strip_suffix(b"\n".as_slice()).unwrap_or(next);
             start = behind;
         }
         end = behind;
     }
-    tell_table(rt, title, text.get(start..).unwrap_or(&[]))
+    let name = from_utf8(title).unwrap_or("");
+    push_table(rt, out, name, text.get(start..).unwrap_or(&[]));
 }
 
 fn main(rt: HostRuntime) -> Result<()> {
     let mut input = rt.reader();
     let mut text = Vec::new(rt.alloc());
     input.read_to_end(&mut text)?;
-    tell_tables(&rt, text.as_slice())
+    let mut out = Transcript::new(rt.alloc());
+    push_tables(&rt, &mut out, text.as_slice());
+    match out.finish() {
+        Ok(told) => {
+            let printed = print!(rt; "{told}");
+            drop(told);
+            Ok(printed?)
+        }
+        Err(Memory) => Ok(println!(rt; "no memory")?),
+    }
 }
