@@ -1,5 +1,5 @@
 -- Stages and options that differ.
-use Rattle.std.proofs.Common.{◌≡◌, ◌≢◌, Option, Some, None, List, [], ◌∷◌, ◌++◌, length, sym, ap, ◌∙◌, arith, length-append}
+use Rattle.std.proofs.Common.{◌≡◌, ◌≢◌, Some, None}
 use Rattle.turn_lock.specs.declared.turns.view.Stage.{Stage}
 use Rattle.turn_lock.specs.declared.turns.view.Stage.TheVariants.{Idle, Waiting, Holding}
 
@@ -14,8 +14,3 @@ same_value a b e = cc
 
 pub none_not_some : {A : Type 0} (a : A) → None ≢ Some a
 none_not_some a e = cc
-
--- what was taken off a list of one value is that value
-pub taken_off : {A : Type 0} (left : List (Option A)) (a b : A) → left ++ Some a ∷ [] ≡ Some b ∷ [] → a ≡ b
-taken_off [] a b e = cc
-taken_off (x ∷ left) a b e = absurd (omega (arith, sym (length-append (x ∷ left) (Some a ∷ [])) ∙ ap length e))
