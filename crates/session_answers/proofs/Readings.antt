@@ -1,5 +1,5 @@
 -- What was read under a pin, and how it is answered.
-use Rattle.std.proofs.Common.{◌≡◌, ◌∙◌, ◌+◌, ◌<◌, ◌≤◌, ℕ, Bool, false, List, [], ◌∷◌, ◌++◌, length, Option, Result, Ok, Err, IfOk, IfErr, ap, sym, subst, arith}
+use Rattle.std.proofs.Common.{◌≡◌, ◌∙◌, ◌+◌, ◌<◌, ◌≤◌, ℕ, Bool, false, List, [], ◌∷◌, ◌++◌, length, Option, None, Result, Ok, Err, IfOk, IfErr, ap, sym, subst, arith}
 use Rattle.afl_outside.specs.Counts.{Rose}
 use Rattle.afl_outside.specs.Disk.{Moment}
 use Rattle.afl_trees.specs.Term.{Term}
@@ -16,7 +16,7 @@ use Rattle.plan_changes.specs.declared.change.Change.{Change}
 use Rattle.plan_changes.specs.Databases.{Database, names_of}
 use Rattle.statement_replies.specs.declared.answers.outcome.Outcome.{Outcome}
 use Rattle.statement_replies.specs.declared.answers.outcome.Outcome.TheVariants.{Replied, Changes}
-use Rattle.statement_replies.specs.Outcomes.{asked_for, ForRowsPut, HasOutcomeKind, IsOutcomeOf, IsToldBy, MayFail}
+use Rattle.statement_replies.specs.Outcomes.{asked_for, ForRowsPut, HasOutcomeKind, IsOutcomeOf, IsToldBy}
 use Rattle.statement_replies.specs.declared.replies.replies.Reply.{Reply as Told}
 use Rattle.statement_replies.specs.Statements.{reply_to}
 use Rattle.statement_replies.specs.declared.replies.style.Style.{Style}
@@ -37,7 +37,7 @@ use Rattle.session_sources.specs.declared.reading.Lent.{Lent}
 use Rattle.session_sources.specs.declared.reading.Reading.{Reading}
 use Rattle.session_sources.specs.Courses.{AddsOwn}
 use Rattle.snapshot_manager.specs.Databases.{IsDatabaseOf}
-use Rattle.session_sources.specs.Laws.{PinnedSourcesHoldVersions}
+use Rattle.session_sources.proofs.VersionLaws.{pinned_sources_hold_versions}
 use Rattle.session_sources.specs.Pinned.{pinned_state, reading_of, unread, HasRead}
 use Rattle.snapshot_manager.specs.Seats.{ledger_seen, seen, session_of, start}
 use Rattle.snapshot_manager.specs.Start.{Start}
@@ -50,7 +50,7 @@ use Rattle.session_answers.proofs.Behind.{names_behind, open_pin_behind}
 use Rattle.session_answers.proofs.Changing.{read_changes_may_be_committed}
 use Rattle.session_answers.proofs.Under.{failed_replies_are_told, pin_within, read_replies_are_told}
 use Rattle.session_answers.specs.AnsweredUnder.{IsAnsweredUnder}
-use Rattle.session_answers.specs.Inner.Steps.{AddsNoAct, WasRead}
+use Rattle.session_answers.specs.Inner.Steps.{AddsNoAct, ReadsSource, WasRead}
 use Rattle.session_answers.proofs.Acts.{note_acts}
 
 -- ---- the names at a pin's database, right behind it and later
@@ -70,16 +70,22 @@ module _ {D : Type 0} (moment : D → Moment) (began : Start D) (old : List Even
 rose_above : (before now : ℕ) → before ≡ 0 → Rose before now → 0 < now
 rose_above before now e rose = omega (arith, e, rose)
 
-pub holds_versions : {D : Type 0} (moment : D → Moment) (shared : Shared D) (pinned : Pinned) (old : Seat D) (first : Reading D) → first ≡ unread shared pinned old →
-    PinnedSourcesHoldVersions moment → (leaf : Leaf) → IsLeafOf pinned.names leaf → Reads (pinned_state moment first) leaf
-holds_versions {D} moment shared pinned old first made law leaf is =
-    subst (λ (r : Reading D). Reads (pinned_state moment r) leaf) (sym made) (law (unread shared pinned old) leaf is)
+pub holds_versions : {D : Type 0} (moment : D → Moment) (pinned : Pinned) (first : Reading D) → first.lent.pinned ≡ pinned →
+    (leaf : Leaf) → IsLeafOf pinned.names leaf → Reads (pinned_state moment first) leaf
+holds_versions moment pinned first is leaf of = pinned_sources_hold_versions moment first leaf (subst (λ (p : Pinned). IsLeafOf p.names leaf) (sym is) of)
+
+module _ {D : Type 0} (shared : Shared D) (pinned : Pinned) (old : Seat D) (first : Reading D) (made : first ≡ unread shared pinned old) where
+  pub whole_first : first.marks.damaged ≡ None
+  whole_first = ap (λ (r : Reading D). r.marks.damaged) made
+
+  pub pinned_first : first.lent.pinned ≡ pinned
+  pinned_first = ap (λ (r : Reading D). r.lent.pinned) made
 
 module _ {D : Type 0} (style : Style) (moment : D → Moment) (shared : Shared D) (pinned : Pinned) (old new : Seat D) (text : List ℕ) (tree : Term) (first last : Reading D)
     (made : first ≡ unread shared pinned old) where
-  module _ (lent : last.lent ≡ first.lent) (seat : new ≡ last.seat) where
-    last_is : last ≡ reading_of shared pinned old new last.marks
-    last_is =
+  module _ (seat : new ≡ last.seat) where
+    last_is : last.lent ≡ first.lent → last ≡ reading_of shared pinned old new last.marks
+    last_is lent =
         ap (λ (l : Lent D). record { lent = l; seat = last.seat; marks = last.marks }) (lent ∙ ap (λ (r : Reading D). r.lent) made)
         ∙ ap (λ (s : Seat D). reading_of shared pinned old s last.marks) (sym seat)
 
@@ -106,16 +112,15 @@ module _ {D : Type 0} (style : Style) (moment : D → Moment) (shared : Shared D
     asked_by (Ok outcome) asks = subst (λ (r : Reading D). AsksBy r outcome) made asks
     asked_by (Err fault) asks = tt
 
-    pub was_read : (result : Result Outcome ExecFault) → HasRead moment last → IfOk result (HasOutcomeKind style pinned.names (check_of tree text pinned.names)) →
-        IfOk result (TellsBy first) → IfOk result (AsksBy first) → Answers (pinned_state moment first) (pinned_state moment last) result →
-        IfErr result (λ fault. MayFail fault (check_of tree text pinned.names)) → WasRead style moment shared pinned old new text tree result
-    was_read result read kind tells asks answers allowed = record {
+    pub was_read : (result : Result Outcome ExecFault) → HasRead moment last → ReadsSource style moment pinned text tree first last result →
+        WasRead style moment shared pinned old new text tree result
+    was_read result read s = record {
       marks = last.marks;
-      read = subst (HasRead moment) last_is read;
-      comes = comes_by result kind tells;
-      asked = asked_by result asks;
-      why = why_by result answers;
-      allowed = allowed;
+      read = subst (HasRead moment) (last_is s.lent) read;
+      comes = comes_by result s.kind s.told;
+      asked = asked_by result s.asked;
+      why = why_by result s.cause;
+      allowed = s.allowed;
     }
 
 -- ---- its answers

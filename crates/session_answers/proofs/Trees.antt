@@ -10,7 +10,8 @@ use Rattle.result_print.specs.declared.refusal.Refusal.{Refusal}
 use Rattle.result_print.specs.declared.refusal.Refusal.TheVariants as refusals
 use Rattle.statement_replies.specs.declared.replies.replies.Reply.{Reply as Told}
 use Rattle.statement_replies.specs.declared.replies.style.Style.{Style}
-use Rattle.store_ledger.specs.declared.pinned.PinFault.TheVariants.{HistoryFull}
+use Rattle.store_ledger.specs.declared.pinned.PinFault.{PinFault}
+use Rattle.store_ledger.specs.declared.pinned.PinFault.TheVariants.{HistoryFull, Memory}
 use Rattle.store_ledger.specs.declared.pinned.Pinned.{Pinned}
 use Rattle.store_ledger.specs.Ledger.{IsOpenPin, IsRefused}
 use Rattle.store_state.specs.declared.state.event.Event.{Event}
@@ -31,7 +32,7 @@ use Rattle.snapshot_manager.specs.Told.{entries_in, is_sealed, ledger_of}
 use Rattle.session_sources.proofs.CourseLaws.{courses_join, turns_are_courses}
 use Rattle.session_answers.specs.AnsweredUnder.{IsAnsweredUnder}
 use Rattle.session_answers.specs.Answered.{BeganAt}
-use Rattle.session_answers.specs.Inner.Tree.{IsAnsweredTree}
+use Rattle.session_answers.specs.Inner.Tree.{IsAnsweredTree, TellsUnpinned}
 use Rattle.session_answers.specs.Reads.{CountsAt, ReadsOnce}
 use Rattle.session_answers.proofs.Counting.{counts_then, refusal_refuses, want_refuses}
 use Rattle.session_answers.proofs.Prefixed.{told_before}
@@ -162,13 +163,13 @@ module _ {D : Type 0} (style : Style) (moment : D → Moment) (start : Start D) 
     told = subst (λ (r : Option Refusal). IsToldFor moment start session 0 new [] text tree reply style r nothing) (sym e) told;
   }
 
-  pub want_is_answered : IsWant reply → reply.place ≡ length (entries_in new) → IsAnsweredTree style moment start session old new text tree reply
+  want_is_answered : IsWant reply → reply.place ≡ length (entries_in new) → IsAnsweredTree style moment start session old new text tree reply
   want_is_answered w at = unpinned (Some refusals.Memory) w.1 w.0 at (λ is. absurd (cc (w.1, is))) tt
 
   here : {place : ℕ} → place ≡ length (entries_in new) → WasAt place new new
   here count = record { later = []; grown = sym (append-nil new); count = count }
 
-  pub full_is_answered : (entries : ℕ) → Refuses refusals.HistoryFull reply → reply.place ≡ entries → IsRefused (ledger_of start new) (HistoryFull entries) →
+  full_is_answered : (entries : ℕ) → Refuses refusals.HistoryFull reply → reply.place ≡ entries → IsRefused (ledger_of start new) (HistoryFull entries) →
       IsAnsweredTree style moment start session old new text tree reply
   full_is_answered entries (inl e) at why =
       let count : reply.place ≡ length (entries_in new) = at ∙ why.1 in
@@ -178,8 +179,19 @@ module _ {D : Type 0} (style : Style) (moment : D → Moment) (start : Start D) 
   full_is_answered entries (inr w) at why = want_is_answered w (at ∙ why.1)
 
   -- a statement that is refused tells nothing of what it reads
-  pub want_reads : IsWant reply → (before after : ℕ) → reply.refusal ≡ None → ReadsOnce moment start session old new text tree before after
+  want_reads : IsWant reply → (before after : ℕ) → reply.refusal ≡ None → ReadsOnce moment start session old new text tree before after
   want_reads w before after accepts = absurd (want_refuses reply w accepts)
 
-  pub full_reads : Refuses refusals.HistoryFull reply → (before after : ℕ) → reply.refusal ≡ None → ReadsOnce moment start session old new text tree before after
+  full_reads : Refuses refusals.HistoryFull reply → (before after : ℕ) → reply.refusal ≡ None → ReadsOnce moment start session old new text tree before after
   full_reads r before after accepts = absurd (refusal_refuses refusals.HistoryFull reply r accepts)
+
+  -- whatever kept it from a pin
+  pub fault_is_answered : (fault : PinFault) (seen : ℕ) → TellsUnpinned seen fault reply → seen ≡ length (entries_in new) → IsRefused (ledger_of start new) fault →
+      IsAnsweredTree style moment start session old new text tree reply
+  fault_is_answered (HistoryFull entries) seen r all why = full_is_answered entries r.0 r.1 why
+  fault_is_answered Memory seen w all why = want_is_answered w.0 (w.1 ∙ all)
+
+  pub fault_reads : (fault : PinFault) (seen : ℕ) → TellsUnpinned seen fault reply → (before after : ℕ) → reply.refusal ≡ None →
+      ReadsOnce moment start session old new text tree before after
+  fault_reads (HistoryFull entries) seen r = full_reads r.0
+  fault_reads Memory seen w = want_reads w.0

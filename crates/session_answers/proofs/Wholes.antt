@@ -1,6 +1,7 @@
 -- The answer to a text: that to its tree, that of its stop, or that no memory was found.
 use Rattle.std.proofs.Common.{◌≡◌, ◌∙◌, ℕ, List, [], length, inl, inr, Option, None, Some, Ok, Err, refl, ap, sym, subst, arith}
 use Rattle.afl_outside.specs.Disk.{Moment}
+use Rattle.afl_parser.specs.declared.fault.ParseFault.{ParseFault}
 use Rattle.afl_parser.specs.declared.fault.ParseFault.TheVariants as stops
 use Rattle.afl_parser.specs.Outcome.{AnswersStop, AnswersTree}
 use Rattle.afl_trees.specs.Statement.{DerivesText, StopsText}
@@ -20,7 +21,7 @@ use Rattle.snapshot_manager.specs.Start.{Start}
 use Rattle.snapshot_manager.specs.Told.{entries_in}
 use Rattle.session_sources.proofs.CourseLaws.{courses_may_be_empty}
 use Rattle.session_answers.specs.Answered.{IsAnswered, IsStopReply}
-use Rattle.session_answers.specs.Inner.Tree.{IsAnsweredTree}
+use Rattle.session_answers.specs.Inner.Tree.{IsAnsweredTree, TellsUnparsed}
 use Rattle.session_answers.specs.Reads.{ReadsOnce}
 use Rattle.session_answers.proofs.Counting.{want_refuses}
 
@@ -48,7 +49,7 @@ module _ {D : Type 0} (style : Style) (moment : D → Moment) (start : Start D) 
   refused_line : (refusal : Option Refusal) → reply.refusal ≡ refusal → HasLine reply refusal → HasLine reply reply.refusal
   refused_line refusal e line = subst (λ (r : Option Refusal). HasLine reply r) (sym e) line
 
-  pub want_is_whole : IsWant reply → reply.place ≡ length (entries_in old) → IsAnswered style moment start session last old old text reply
+  want_is_whole : IsWant reply → reply.place ≡ length (entries_in old) → IsAnswered style moment start session last old old text reply
   want_is_whole w at = record {
     own = [];
     course = nothing;
@@ -66,15 +67,8 @@ module _ {D : Type 0} (style : Style) (moment : D → Moment) (start : Start D) 
     stopped = λ there why stop. (refl, inr (w, omega (arith, at), omega (arith, at)));
   }
 
-  -- a statement that is refused tells nothing of what it reads
-  pub want_reads_none : IsWant reply → (tree : Term) (before after : ℕ) → reply.refusal ≡ None → ReadsOnce moment start session old old text tree before after
-  want_reads_none w tree before after accepts = absurd (want_refuses reply w accepts)
-
   module _ (at : ℕ) (kind : ParseKind) (only_tree : (t : Term) → DerivesText text t → AnswersTree (Err (stops.At at kind)) t)
       (only_stop : (there : ℕ) (why : ParseKind) → StopsText text there why → AnswersStop (Err (stops.At at kind)) there why) where
-    pub stop_reads_none : (tree : Term) → DerivesText text tree → (before after : ℕ) → ReadsOnce moment start session old old text tree before after
-    stop_reads_none tree derives before after = absurd (only_tree tree derives)
-
     stop_words : words_of reply ≡ refused (Parse at kind) → reply.place ≡ last → (there : ℕ) (why : ParseKind) → (at ≡ there) × (kind ≡ why) →
         IsStopReply last there why reply
     stop_words e place there why same = record {
@@ -82,7 +76,7 @@ module _ {D : Type 0} (style : Style) (moment : D → Moment) (start : Start D) 
       place = place;
     }
 
-    pub stop_is_whole : (mine count : ℕ) → mine ≡ last → count ≡ length (entries_in old) → RefusesAt (Parse at kind) mine count reply →
+    stop_is_whole : (mine count : ℕ) → mine ≡ last → count ≡ length (entries_in old) → RefusesAt (Parse at kind) mine count reply →
         IsAnswered style moment start session last old old text reply
     stop_is_whole mine count is_last is_all (inl (e, place)) = record {
       own = [];
@@ -110,3 +104,15 @@ module _ {D : Type 0} (style : Style) (moment : D → Moment) (start : Start D) 
       full = λ t derives. absurd (only_tree t derives);
       stopped = λ there why stop. (refl, inr (w, omega (arith, place, is_all), omega (arith, place, is_all)));
     }
+
+  -- whatever kept it from a tree
+  pub fault_is_whole : (fault : ParseFault) → ((t : Term) → DerivesText text t → AnswersTree (Err fault) t) →
+      ((there : ℕ) (why : ParseKind) → StopsText text there why → AnswersStop (Err fault) there why) →
+      (mine count : ℕ) → mine ≡ last → count ≡ length (entries_in old) → TellsUnparsed mine count fault reply → IsAnswered style moment start session last old old text reply
+  fault_is_whole (stops.At at kind) only_tree only_stop mine count is_last is_all r = stop_is_whole at kind only_tree only_stop mine count is_last is_all r
+  fault_is_whole stops.Memory only_tree only_stop mine count is_last is_all w = want_is_whole w.0 (w.1 ∙ is_all)
+
+  pub fault_reads_none : (fault : ParseFault) → ((t : Term) → DerivesText text t → AnswersTree (Err fault) t) → (mine count : ℕ) → TellsUnparsed mine count fault reply →
+      (tree : Term) → DerivesText text tree → (before after : ℕ) → reply.refusal ≡ None → ReadsOnce moment start session old old text tree before after
+  fault_reads_none (stops.At at kind) only_tree mine count r tree derives before after accepts = absurd (only_tree tree derives)
+  fault_reads_none stops.Memory only_tree mine count w tree derives before after accepts = absurd (want_refuses reply w.0 accepts)

@@ -1,5 +1,5 @@
 -- How a statement goes in a turn, from the store as it was found to the one that is handed back.
-use Rattle.std.specs.Prelude.{◌≡◌, ◌+◌, ◌-◌, ◌^◌, ◌<◌, ℕ, List, [], length, Option, Some, Result, Ok, Err, IfOk, IfErr, OnOk, OnErr}
+use Rattle.std.specs.Prelude.{◌≡◌, ◌+◌, ◌-◌, ◌^◌, ◌<◌, ◌≤◌, ℕ, false, List, [], length, Option, Some, Result, Ok, Err, IfOk, IfErr, IsTrue, OnOk, OnErr}
 use Rattle.afl_outside.specs.Disk.{Moment}
 use Rattle.afl_trees.specs.Term.{Term}
 use Rattle.array_geom.specs.declared.chunk.Changed.{Changed}
@@ -16,13 +16,17 @@ use Rattle.snapshot_manager.specs.Owners.{ExtendsByOwn}
 use Rattle.snapshot_manager.specs.Turn.{Turn}
 use Rattle.store_state.specs.declared.state.parts.StoreParts.{StoreParts}
 use Rattle.store_state.specs.At.{standing}
+use Rattle.check_exprs.specs.Laws.{leaves_fit}
+use Rattle.event_core.specs.Allowed.{is_pinned}
 use Rattle.event_core.specs.Bases.{sequence_at}
+use Rattle.store_ledger.specs.Ledger.{history, is_noted, is_tried}
 use Rattle.store_state.specs.Calls.{history_at}
 use Rattle.store_state.specs.Events.{events, owner_of}
 use Rattle.store_state.specs.Standings.{base_of, Standing}
 use Rattle.snapshot_manager.specs.Tried.{AddsSealed, AddsTried}
 use Rattle.snapshot_manager.specs.Causes.{FitsAfter, IsUncommitted}
 use Rattle.snapshot_manager.specs.CommitFault.{CommitFault}
+use Rattle.snapshot_manager.specs.Databases.{HasDatabase}
 use Rattle.snapshot_manager.specs.Starts.{start_of}
 use Rattle.snapshot_manager.specs.declared.seat.Seat.{Seat}
 use Rattle.snapshot_manager.specs.Seats.{store_of, HasTurn}
@@ -32,6 +36,7 @@ use Rattle.session_answers.specs.Refusals.{IsUncommittedReply, IsUnreadReply, Is
 use Rattle.session_answers.specs.BehindPins.{ComesOver}
 use Rattle.session_answers.specs.Replies.{words_of}
 use Rattle.session_answers.specs.declared.replies.reply.Reply.{Reply}
+use Rattle.session_answers.specs.declared.turns.settings.Options.{Options}
 
 -- the store of a turn
 abbrev pub store_in : {D : Type 0} → (D → Moment) → Turn (StoreParts D) → Standing D
@@ -42,6 +47,14 @@ pub record KeepsTurn {D : Type 0} (moment : D → Moment) (session : ℕ) (old n
   pub turn : (seat : Seat D) → HasTurn seat old → HasTurn seat new
   pub start : start_of (store_in moment new) ≡ start_of (store_in moment old)
   pub extends : ExtendsByOwn owner_of session (events (store_in moment old)) (events (store_in moment new))
+
+-- what holds of the store of a turn before a statement of a session is answered over it
+pub record IsOver {D : Type 0} (options : Options) (moment : D → Moment) (session : ℕ) (turn : Turn (StoreParts D)) (tree : Term) : Type 0 where
+  pub pinned : IsTrue (is_pinned session (history (store_of turn).ledger))
+  pub tried : is_noted is_tried (store_of turn).ledger session ≡ false
+  pub database : HasDatabase moment (store_in moment turn) (length (store_of turn).ledger.entries) (names_now (store_of turn).ledger)
+  pub fit : IsTrue (leaves_fit tree)
+  pub workers : (1 ≤ options.workers) × (options.workers ≤ 64)
 
 -- why a source gave no answer, by what it kept
 abbrev pub IsWhy : Marks → ExecFault → Type 0

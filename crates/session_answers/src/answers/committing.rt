@@ -1,18 +1,9 @@
 //! Commits of changes, and their answers.
-ghost use Rattle.std.specs.Prelude.{◌≡◌, ◌+◌, ◌≤◌, false, IsTrue, List, Some};
-ghost use Rattle.check_exprs.specs.Laws.{leaves_fit};
-ghost use Rattle.plan_changes.specs.Databases.{Database};
-ghost use Rattle.statement_replies.specs.Outcomes.{MayBeCommitted};
-ghost use Rattle.store_ledger.specs.Ledger.{is_noted, is_tried};
+ghost use Rattle.std.specs.Prelude.{◌≡◌, List};
 ghost use Rattle.store_state.specs.declared.state.event.Event.{Event};
-ghost use Rattle.store_state.specs.Calls.{database_with};
-ghost use Rattle.store_state.specs.Standings.{BeganAs};
-ghost use Rattle.session_answers.specs.Replies.{Says, SaysChange};
-ghost use Rattle.snapshot_manager.specs.Databases.{IsDatabaseOf};
-ghost use Rattle.snapshot_manager.specs.Prepared.{MayBeMade};
-ghost use Rattle.snapshot_manager.specs.Seats.{ledger_seen, read_count, seen, start, store_seen, HoldsPin, IsIdle, IsSameSeat, IsSeatOf};
+ghost use Rattle.snapshot_manager.specs.Seats.{read_count, seen, start, HoldsPin, IsIdle, IsSameSeat, IsSeatOf};
 ghost use Rattle.session_answers.specs.AnsweredUnder.{IsAnsweredUnder};
-ghost use Rattle.session_answers.specs.Inner.Steps.{AddsNoAct, Tells};
+ghost use Rattle.session_answers.specs.Inner.Steps.{AddsNoAct, MayCommit, Tells};
 
 use crate::replies::{Attempt, Reply, at_place, uncommitted};
 use crate::turns::{Options, answer_held};
@@ -30,7 +21,7 @@ pub(crate) fn commit<D: Disk, R: Threads + Wait + Sync, G: Gate>(
     rt: &R,
     alloc: Global,
     shared: &Shared<D>,
-    seat: Seat<D>,
+    mut seat: Seat<D>,
     pinned: &Pinned,
     text: &[u8],
     tree: &Tree,
@@ -38,19 +29,7 @@ pub(crate) fn commit<D: Disk, R: Threads + Wait + Sync, G: Gate>(
     options: &Options,
     gate: &G,
 ) -> (Reply, Seat<D>)
-    requires seat { IsSeatOf shared.now seat × IsIdle seat }
-    requires pin { HoldsPin D.moment shared.now seat pinned.now }
-    requires tried { is_noted is_tried (ledger_seen D.moment shared.now seat) pinned.now.session ≡ false }
-    requires allowed { MayBeCommitted pinned.now.names attempt.change attempt.changed }
-    requires database { (db : Database) → BeganAs (D.moment (start D.moment shared.now).opened.disk).state db
-        → IsDatabaseOf (database_with db (store_seen D.moment shared.now seat) pinned.now.place) pinned.now.names }
-    requires may { (db : Database) → BeganAs (D.moment (start D.moment shared.now).opened.disk).state db
-        → MayBeMade (database_with db (store_seen D.moment shared.now seat) pinned.now.place) attempt.change attempt.changed }
-    requires said { Says options.now.style D.moment (start D.moment shared.now) (seen seat) text.now tree.now (pinned.now.place + 1)
-        (record { reply = attempt.words; change = Some attempt.change }) }
-    requires typed { SaysChange options.now.style D.moment (start D.moment shared.now) (seen seat) text.now tree.now (pinned.now.place + 1) attempt.change }
-    requires fit { IsTrue (leaves_fit tree.now) }
-    requires workers { (1 ≤ options.now.workers) × (options.now.workers ≤ 64) }
+    requires ready { MayCommit options.now D.moment shared.now seat pinned.now text.now tree.now attempt }
     ensures seat { IsSeatOf shared.now result.1 × IsIdle result.1 }
     ensures same { IsSameSeat seat result.1 }
     ensures reads { read_count result.1 ≡ read_count seat }
@@ -64,7 +43,6 @@ pub(crate) fn commit<D: Disk, R: Threads + Wait + Sync, G: Gate>(
         changed,
         words,
     } = attempt;
-    let mut seat = seat;
     let answer = shared.commit(rt, alloc, &mut seat, pinned, change, changed);
     match tell(alloc, answer, words, seat.seen()) {
         Ok(reply) => (reply, seat),

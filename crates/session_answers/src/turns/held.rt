@@ -1,5 +1,5 @@
 //! Answers in a turn that is held.
-ghost use Rattle.std.specs.Prelude.{◌≡◌, ◌≤◌, false, length, Ok as Good, IsTrue, Option};
+ghost use Rattle.std.specs.Prelude.{◌≡◌, ◌≤◌, false, Ok as Good, IsTrue, Option};
 ghost use Rattle.check_exprs.specs.Laws.{leaves_fit};
 ghost use Rattle.plan_changes.specs.declared.change.Change.{Change};
 ghost use Rattle.plan_changes.specs.Stored.{AreStored};
@@ -11,25 +11,26 @@ ghost use Rattle.statement_replies.specs.declared.replies.replies.Reply.{Reply a
 ghost use Rattle.event_core.specs.Allowed.{is_pinned};
 ghost use Rattle.store_ledger.specs.Ledger.{history, is_noted, is_tried};
 ghost use Rattle.store_state.specs.At.{standing};
-ghost use Rattle.store_state.specs.Events.{events};
+ghost use Rattle.store_state.specs.Events.{events, owner_of};
 ghost use Rattle.snapshot_manager.specs.Starts.{start_of};
-ghost use Rattle.snapshot_manager.specs.Databases.{HasDatabase};
 ghost use Rattle.session_sources.specs.Held.{names_now};
 ghost use Rattle.snapshot_manager.specs.Prepared.{IsAsked};
 ghost use Rattle.snapshot_manager.specs.Seats.{ledger_seen, read_count, seen, start, store_of, HasTurn, HoldsPin, IsIdle, IsSameSeat, IsSeatOf};
+ghost use Rattle.snapshot_manager.specs.Owners.{ExtendsByOwn};
 ghost use Rattle.snapshot_manager.specs.Told.{IsTold};
-ghost use Rattle.session_answers.specs.Inner.Turns.{store_in, Follows, Goes, IsTried, KeepsTurn, TellsCommit};
+ghost use Rattle.session_answers.specs.Inner.Turns.{store_in, Follows, Goes, IsOver, IsTried, KeepsTurn};
 ghost use Rattle.session_answers.specs.AnsweredUnder.{IsAnsweredInTurn};
 
 use crate::replies::{Attempt, Reply, at_place, reply_read, uncommitted, want};
 use crate::turns::settings::Options;
 use afl_outside::{Disk, Gate};
 use afl_trees::Tree;
+use array_store::Store;
 use cell_values::Memory;
 use chunk_source::ExecFault;
 use logical_plan::Names;
 use session_sources::HeldSource;
-use snapshot_manager::{CommitFault, Seat, Shared, StoreTurn, commit};
+use snapshot_manager::{Seat, Shared, StoreTurn, commit};
 use statement_replies::{Outcome, Reply as Words, let_go_reply, outcome_of};
 use std::alloc::Global;
 use std::sync::Wait;
@@ -87,22 +88,17 @@ pub fn answer_held<D: Disk, R: Threads + Wait + Sync, G: Gate>(
 fn answer_in_turn<D: Disk, R: Threads + Sync, G: Gate>(
     rt: &R,
     alloc: Global,
-    turn: StoreTurn<D>,
+    mut turn: StoreTurn<D>,
     session: u32,
     text: &[u8],
     tree: &Tree,
     options: &Options,
     gate: &G,
 ) -> (Reply, StoreTurn<D>)
-    requires pinned { IsTrue (is_pinned session (history (store_of turn).ledger)) }
-    requires tried { is_noted is_tried (store_of turn).ledger session ≡ false }
-    requires database { HasDatabase D.moment (store_in D.moment turn) (length (store_of turn).ledger.entries) (names_now (store_of turn).ledger) }
-    requires fit { IsTrue (leaves_fit tree.now) }
-    requires workers { (1 ≤ options.now.workers) × (options.now.workers ≤ 64) }
+    requires over { IsOver options.now D.moment session turn tree.now }
     ensures keeps { KeepsTurn D.moment session turn result.1 }
     ensures goes { Goes options.now.style D.moment session turn result.1 text.now tree.now result.0 }
 {
-    let mut turn = turn;
     let store = turn.value();
     let place = store.history().len() as u64;
     match store.names().copy() {
@@ -123,13 +119,9 @@ fn answer_over<D: Disk, R: Threads + Sync, G: Gate>(
     options: &Options,
     gate: &G,
 ) -> (Reply, StoreTurn<D>)
-    requires pinned { IsTrue (is_pinned session (history (store_of turn).ledger)) }
-    requires tried { is_noted is_tried (store_of turn).ledger session ≡ false }
-    requires database { HasDatabase D.moment (store_in D.moment turn) (length (store_of turn).ledger.entries) (names_now (store_of turn).ledger) }
+    requires over { IsOver options.now D.moment session turn tree.now }
     requires names { names.now ≡ names_now (store_of turn).ledger }
     requires stored { AreStored names.now }
-    requires fit { IsTrue (leaves_fit tree.now) }
-    requires workers { (1 ≤ options.now.workers) × (options.now.workers ≤ 64) }
     ensures keeps { KeepsTurn D.moment session turn result.1 }
     ensures goes { Goes options.now.style D.moment session turn result.1 text.now tree.now result.0 }
 {
@@ -152,7 +144,7 @@ fn answer_over<D: Disk, R: Threads + Sync, G: Gate>(
 /// Answers what came of a statement that was read in a turn.
 fn answer_read<D: Disk>(
     alloc: Global,
-    turn: StoreTurn<D>,
+    mut turn: StoreTurn<D>,
     session: u32,
     outcome: Result<Outcome, ExecFault>,
 ) -> (Reply, StoreTurn<D>)
@@ -163,43 +155,35 @@ fn answer_read<D: Disk>(
     ensures keeps { KeepsTurn D.moment session turn result.1 }
     ensures follows { Follows D.moment session turn result.1 result.0 outcome }
 {
-    let mut turn = turn;
-    let place = turn.value().history().len() as u64;
+    let store = turn.value();
+    let place = store.history().len() as u64;
     match reply_read(alloc, outcome, place) {
         Ok(reply) => (reply, turn),
-        Err(attempt) => commit_in_turn(alloc, turn, session, attempt),
+        Err(attempt) => (commit_in_turn(alloc, store, session, attempt), turn),
     }
 }
 
-/// Commits a change of a session in a turn.
+/// Commits a change of a session in the store of a turn.
 fn commit_in_turn<D: Disk>(
     alloc: Global,
-    turn: StoreTurn<D>,
+    store: &mut Store<D>,
     session: u32,
     attempt: Attempt,
-) -> (Reply, StoreTurn<D>)
-    requires pinned { IsTrue (is_pinned session (history (store_of turn).ledger)) }
-    requires tried { is_noted is_tried (store_of turn).ledger session ≡ false }
-    requires asked { IsAsked D.moment (store_in D.moment turn) attempt.change attempt.changed }
-    ensures keeps { KeepsTurn D.moment session turn result.1 }
-    ensures tried { IsTried D.moment session attempt.change attempt.words (store_in D.moment turn) (store_in D.moment result.1) result.0 }
+) -> Reply
+    requires pinned { IsTrue (is_pinned session (history store.old.ledger)) }
+    requires tried { is_noted is_tried store.old.ledger session ≡ false }
+    requires asked { IsAsked D.moment (standing D.moment store.old) attempt.change attempt.changed }
+    ensures start { start_of (standing D.moment store.new) ≡ start_of (standing D.moment store.old) }
+    ensures extends { ExtendsByOwn owner_of session (events (standing D.moment store.old)) (events (standing D.moment store.new)) }
+    ensures tried { IsTried D.moment session attempt.change attempt.words (standing D.moment store.old) (standing D.moment store.new) result }
 {
     let Attempt {
         change,
         changed,
         words,
     } = attempt;
-    let mut turn = turn;
-    let store = turn.value();
     let answer = commit(alloc, store, session, change, changed);
     let count = store.history().len() as u64;
-    (tell_commit(alloc, answer, words, count), turn)
-}
-
-/// The reply to a commit that was tried, where the store then has so many entries.
-fn tell_commit(alloc: Global, answer: Result<u64, CommitFault>, words: Words, count: u64) -> Reply
-    ensures { TellsCommit count words answer result }
-{
     match answer {
         Ok(place) => at_place(words, place),
         Err(fault) => {

@@ -5,13 +5,8 @@ use Rattle.store_ledger.specs.Ledger.{history, is_noted}
 use Rattle.store_state.specs.declared.state.event.Event.TheVariants.{Entered}
 use Rattle.snapshot_manager.specs.Turns.{pin_event, Adds}
 use Rattle.snapshot_manager.specs.Seats.{ledger_found, ledger_seen, read_count, seen, session_of, start}
-use Rattle.session_answers.proofs.Trees.{full_is_answered, full_reads, is_read_once, pin_parts, pinned_is_answered, want_is_answered, want_reads}
+use Rattle.session_answers.proofs.Trees.{fault_is_answered, fault_reads, is_read_once, pin_parts, pinned_is_answered}
 use Rattle.session_answers.proofs.answers.answering.answer_tree.Goals as goal
-
-pub answer_pinned-reply-requires-clause-untried : goal.answer_pinned-reply-requires-clause-untried
-answer_pinned-reply-requires-clause-untried g c κs within =
-    let e = c.in-Ok.ensures in
-    λ kinds. ap (λ session. is_noted kinds (ledger_seen g.D.Disk.moment c.args.shared.now c.pin.new.seat) session) e.same.session ∙ e.untried kinds
 
 pub returns-in-Ok : goal.returns-in-Ok
 returns-in-Ok g c =
@@ -38,59 +33,40 @@ returns-in-Ok g c =
           (read_count c.args.seat) (read_count c.pin.new.seat) (read_count mid) (read_count c.unpin.new.seat) e.reads (a.reads accepted) u.reads;
     }
 
-pub returns-in-Err-HistoryFull : goal.returns-in-Err-HistoryFull
-returns-in-Err-HistoryFull g c =
-    let e = c.in-Err-HistoryFull.ensures in
-    let cause = rw c.in-Err-HistoryFull.field-0-is at e.cause in
-    let r = c.refusal_at.ensures in record {
+pub returns-in-Err : goal.returns-in-Err
+returns-in-Err g c =
+    let began = start g.D.Disk.moment c.args.shared.now in
+    let e = c.in-Err.ensures in
+    let told = c.unpinned.ensures in record {
       seat = e.seat;
       same = e.same;
       none = e.none;
-      answered = full_is_answered c.args.options.now.style g.D.Disk.moment (start g.D.Disk.moment c.args.shared.now) (session_of c.args.seat) (seen c.args.seat) (seen c.pin.new.seat) c.args.text.now c.args.tree.now
-          c.refusal_at.result e.err c.in-Err-HistoryFull.entries r.words (r.place ∙ c.from-place.ensures) cause;
-      reads = full_reads c.args.options.now.style g.D.Disk.moment (start g.D.Disk.moment c.args.shared.now) (session_of c.args.seat) (seen c.args.seat) (seen c.pin.new.seat) c.args.text.now c.args.tree.now
-          c.refusal_at.result e.err r.words (read_count c.args.seat) (read_count c.pin.new.seat);
-    }
-
-pub returns-in-Err-Memory : goal.returns-in-Err-Memory
-returns-in-Err-Memory g c =
-    let e = c.in-Err-Memory.ensures in
-    let w = c.want.ensures in record {
-      seat = e.seat;
-      same = e.same;
-      none = e.none;
-      answered = want_is_answered c.args.options.now.style g.D.Disk.moment (start g.D.Disk.moment c.args.shared.now) (session_of c.args.seat) (seen c.args.seat) (seen c.pin.new.seat) c.args.text.now c.args.tree.now
-          c.want.result e.err w.want (w.place ∙ c.seen-seen.ensures ∙ e.seat.0.counts);
-      reads = want_reads c.args.options.now.style g.D.Disk.moment (start g.D.Disk.moment c.args.shared.now) (session_of c.args.seat) (seen c.args.seat) (seen c.pin.new.seat) c.args.text.now c.args.tree.now
-          c.want.result e.err w.want (read_count c.args.seat) (read_count c.pin.new.seat);
+      answered = fault_is_answered c.args.options.now.style g.D.Disk.moment began (session_of c.args.seat) (seen c.args.seat) (seen c.pin.new.seat) c.args.text.now c.args.tree.now
+          c.unpinned.result e.err c.in-Err.fault c.seen.result told (c.seen.ensures ∙ e.seat.0.counts) e.cause;
+      reads = fault_reads c.args.options.now.style g.D.Disk.moment began (session_of c.args.seat) (seen c.args.seat) (seen c.pin.new.seat) c.args.text.now c.args.tree.now
+          c.unpinned.result e.err c.in-Err.fault c.seen.result told (read_count c.args.seat) (read_count c.pin.new.seat);
     }
 
 pub pin-requires-clause-seat : goal.pin-requires-clause-seat
-pin-requires-clause-seat g c = c.requires.seat
+pin-requires-clause-seat g c = c.requires.ready.seat
 
 pub pin-requires-clause-none : goal.pin-requires-clause-none
-pin-requires-clause-none g c = c.requires.none
-
-pub answer_pinned-reply-requires-clause-seat : goal.answer_pinned-reply-requires-clause-seat
-answer_pinned-reply-requires-clause-seat g c κs within = c.in-Ok.ensures.seat
-
-pub answer_pinned-reply-requires-clause-pin : goal.answer_pinned-reply-requires-clause-pin
-answer_pinned-reply-requires-clause-pin g c κs within = c.in-Ok.ensures.open
-
-pub answer_pinned-reply-requires-clause-stored : goal.answer_pinned-reply-requires-clause-stored
-answer_pinned-reply-requires-clause-stored g c κs within = c.in-Ok.ensures.stored
-
-pub answer_pinned-reply-requires-clause-database : goal.answer_pinned-reply-requires-clause-database
-answer_pinned-reply-requires-clause-database g c κs within = c.in-Ok.ensures.database
-
-pub answer_pinned-reply-requires-clause-fit : goal.answer_pinned-reply-requires-clause-fit
-answer_pinned-reply-requires-clause-fit g c κs within = c.requires.fit
-
-pub answer_pinned-reply-requires-clause-workers : goal.answer_pinned-reply-requires-clause-workers
-answer_pinned-reply-requires-clause-workers g c κs within = c.requires.workers
+pin-requires-clause-none g c = c.requires.ready.none
 
 pub unpin-requires-clause-seat : goal.unpin-requires-clause-seat
 unpin-requires-clause-seat g c = c.answer_pinned-reply.ensures.seat
 
 pub unpin-requires-clause-pin : goal.unpin-requires-clause-pin
 unpin-requires-clause-pin g c = c.answer_pinned-reply.ensures.pin
+
+pub answer_pinned-reply-requires-clause-under : goal.answer_pinned-reply-requires-clause-under
+answer_pinned-reply-requires-clause-under g c κs within =
+    let e = c.in-Ok.ensures in record {
+      seat = e.seat;
+      pin = e.open;
+      untried = λ kinds. ap (λ session. is_noted kinds (ledger_seen g.D.Disk.moment c.args.shared.now c.pin.new.seat) session) e.same.session ∙ e.untried kinds;
+      stored = e.stored;
+      database = e.database;
+      fit = c.requires.ready.fit;
+      workers = c.requires.ready.workers;
+    }

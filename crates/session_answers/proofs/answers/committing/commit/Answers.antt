@@ -6,25 +6,36 @@ use Rattle.session_answers.proofs.Commits.{change_under, ended, held_behind, lef
 use Rattle.session_answers.proofs.Readings.{named_behind}
 use Rattle.session_answers.proofs.answers.committing.commit.Goals as goal
 
-pub commit-answer-requires : goal.commit-answer-requires
-commit-answer-requires g c =
-    let r = c.requires in record {
-      seat = r.seat;
-      pin = r.pin;
-      tried = r.tried;
-      named = r.allowed.named;
-      typed = r.allowed.typed;
-      comes = r.allowed.comes;
-      valid = r.allowed.valid;
-      told = r.may;
-    }
+pub commit-answer-requires-clause-seat : goal.commit-answer-requires-clause-seat
+commit-answer-requires-clause-seat g c = c.requires.ready.seat
+
+pub commit-answer-requires-clause-pin : goal.commit-answer-requires-clause-pin
+commit-answer-requires-clause-pin g c = c.requires.ready.pin
+
+pub commit-answer-requires-clause-tried : goal.commit-answer-requires-clause-tried
+commit-answer-requires-clause-tried g c = c.requires.ready.tried
+
+pub commit-answer-requires-clause-named : goal.commit-answer-requires-clause-named
+commit-answer-requires-clause-named g c = c.requires.ready.allowed.named
+
+pub commit-answer-requires-clause-typed : goal.commit-answer-requires-clause-typed
+commit-answer-requires-clause-typed g c = c.requires.ready.allowed.typed
+
+pub commit-answer-requires-clause-comes : goal.commit-answer-requires-clause-comes
+commit-answer-requires-clause-comes g c = c.requires.ready.allowed.comes
+
+pub commit-answer-requires-clause-valid : goal.commit-answer-requires-clause-valid
+commit-answer-requires-clause-valid g c = c.requires.ready.allowed.valid
+
+pub commit-answer-requires-clause-told : goal.commit-answer-requires-clause-told
+commit-answer-requires-clause-told g c = c.requires.ready.may
 
 pub returns-in-Ok : goal.returns-in-Ok
 returns-in-Ok g c =
     let moment = g.D.Disk.moment in
     let began = start moment c.args.shared.now in
     let old = seen c.args.seat in
-    let r = c.requires in
+    let r = c.requires.ready in
     let e = c.commit-answer.ensures in
     let o = r.pin.open_pin in
     let tells = c.in-Ok.ensures in record {
@@ -62,7 +73,7 @@ answer_held-requires-clause-tried g c κs within =
     let tells = c.in-Err.ensures in
     let found = left_stale _ c.seen.result c.args.attempt.words c.commit-answer.result c.in-Err.turn tells c.commit-answer.ensures.found in
     still_untried (start g.D.Disk.moment c.args.shared.now) c.args.pinned.now (session_of c.args.seat) (seen c.args.seat) (seen c.commit-answer.new.seat)
-    c.requires.pin.own found c.requires.tried
+    c.requires.ready.pin.own found c.requires.ready.tried
 
 pub answer_held-requires-clause-pin : goal.answer_held-requires-clause-pin
 answer_held-requires-clause-pin g c κs within = c.commit-answer.ensures.pin
@@ -71,13 +82,13 @@ pub answer_held-requires-clause-change : goal.answer_held-requires-clause-change
 answer_held-requires-clause-change g c κs within = (
   c.args.attempt.change,
   change_under c.args.options.now.style g.D.Disk.moment (start g.D.Disk.moment c.args.shared.now) (seen c.args.seat) c.args.pinned.now c.args.text.now c.args.tree.now c.args.attempt.change
-      c.requires.pin.open_pin c.requires.typed,
+      c.requires.ready.pin.open_pin c.requires.ready.typed,
 )
 
 pub returns-in-Err : goal.returns-in-Err
 returns-in-Err g c =
     let began = start g.D.Disk.moment c.args.shared.now in
-    let r = c.requires in
+    let r = c.requires.ready in
     let e = c.commit-answer.ensures in
     let tells = c.in-Err.ensures in
     let found = left_stale _ c.seen.result c.args.attempt.words c.commit-answer.result c.in-Err.turn tells e.found in
@@ -91,7 +102,7 @@ returns-in-Err g c =
     }
 
 pub answer_held-requires-clause-fit : goal.answer_held-requires-clause-fit
-answer_held-requires-clause-fit g c κs within = c.requires.fit
+answer_held-requires-clause-fit g c κs within = c.requires.ready.fit
 
 pub answer_held-requires-clause-workers : goal.answer_held-requires-clause-workers
-answer_held-requires-clause-workers g c κs within = c.requires.workers
+answer_held-requires-clause-workers g c κs within = c.requires.ready.workers

@@ -1,34 +1,28 @@
 use Rattle.session_answers.proofs.TurnsEnding.{answered_last, database_here, extends_last, pin_last, pinned_here, start_last, tried_here, turn_last}
 use Rattle.session_answers.proofs.turns.held.answer_held.Goals as goal
 
-pub answer_in_turn-reply-requires-clause-pinned : goal.answer_in_turn-reply-requires-clause-pinned
-answer_in_turn-reply-requires-clause-pinned g c κs within =
-    pinned_here g.D.Disk.moment c.args.shared.now c.args.seat c.args.turn c.value.result.now c.value.ensures.value c.args.pinned.now c.requires.held c.requires.pin
-
-pub answer_in_turn-reply-requires-clause-tried : goal.answer_in_turn-reply-requires-clause-tried
-answer_in_turn-reply-requires-clause-tried g c κs within =
-    tried_here g.D.Disk.moment c.args.shared.now c.args.seat c.args.turn c.value.result.now c.value.ensures.value c.args.pinned.now c.requires.held c.requires.pin c.requires.tried
-
-pub answer_in_turn-reply-requires-clause-database : goal.answer_in_turn-reply-requires-clause-database
-answer_in_turn-reply-requires-clause-database g c κs within =
-    database_here g.D.Disk.moment c.args.shared.now c.args.seat c.args.turn c.value.result.now c.value.ensures.value c.args.pinned.now c.requires.held c.requires.pin
-    c.is_at.ensures.at
-
-pub end_turn-requires : goal.end_turn-requires
-end_turn-requires g c =
-    let moment = g.D.Disk.moment in
+pub end_turn-requires-clause-seat : goal.end_turn-requires-clause-seat
+end_turn-requires-clause-seat g c =
     let r = c.requires in
-    let went = c.answer_in_turn-reply in record {
-      seat = (
-        r.seat.0,
-        turn_last moment c.args.shared.now c.args.seat c.args.turn c.value.result.now c.value.ensures.value c.args.pinned.now r.held r.pin c.is_at.ensures.at r.start r.events
-            went.result.1 c.value-2.result.now c.value-2.ensures.value went.ensures.keeps r.seat.1,
-      );
-      start = start_last moment c.args.shared.now c.args.seat c.args.turn c.value.result.now c.value.ensures.value c.args.pinned.now r.held r.pin c.is_at.ensures.at r.start r.events
-          went.result.1 c.value-2.result.now c.value-2.ensures.value went.ensures.keeps;
-      events = extends_last moment c.args.shared.now c.args.seat c.args.turn c.value.result.now c.value.ensures.value c.args.pinned.now r.held r.pin c.is_at.ensures.at r.start r.events
-          went.result.1 c.value-2.result.now c.value-2.ensures.value went.ensures.keeps;
-    }
+    let went = c.answer_in_turn-reply in (
+      r.seat.0,
+      turn_last g.D.Disk.moment c.args.shared.now c.args.seat c.args.turn c.value.result.now c.value.ensures.value c.args.pinned.now r.held r.pin c.is_at.ensures.at r.start r.events
+          went.result.1 c.value-2.result.now c.value-2.ensures.value went.ensures.keeps r.seat.1,
+    )
+
+pub end_turn-requires-clause-start : goal.end_turn-requires-clause-start
+end_turn-requires-clause-start g c =
+    let r = c.requires in
+    let went = c.answer_in_turn-reply in
+    start_last g.D.Disk.moment c.args.shared.now c.args.seat c.args.turn c.value.result.now c.value.ensures.value c.args.pinned.now r.held r.pin c.is_at.ensures.at r.start r.events
+    went.result.1 c.value-2.result.now c.value-2.ensures.value went.ensures.keeps
+
+pub end_turn-requires-clause-events : goal.end_turn-requires-clause-events
+end_turn-requires-clause-events g c =
+    let r = c.requires in
+    let went = c.answer_in_turn-reply in
+    extends_last g.D.Disk.moment c.args.shared.now c.args.seat c.args.turn c.value.result.now c.value.ensures.value c.args.pinned.now r.held r.pin c.is_at.ensures.at r.start r.events
+    went.result.1 c.value-2.result.now c.value-2.ensures.value went.ensures.keeps
 
 pub returns : goal.returns
 returns g c =
@@ -48,8 +42,12 @@ returns g c =
           r.change.0 r.change.1;
     }
 
-pub answer_in_turn-reply-requires-clause-fit : goal.answer_in_turn-reply-requires-clause-fit
-answer_in_turn-reply-requires-clause-fit g c κs within = c.requires.fit
-
-pub answer_in_turn-reply-requires-clause-workers : goal.answer_in_turn-reply-requires-clause-workers
-answer_in_turn-reply-requires-clause-workers g c κs within = c.requires.workers
+pub answer_in_turn-reply-requires-clause-over : goal.answer_in_turn-reply-requires-clause-over
+answer_in_turn-reply-requires-clause-over g c κs within = record {
+  pinned = pinned_here g.D.Disk.moment c.args.shared.now c.args.seat c.args.turn c.value.result.now c.value.ensures.value c.args.pinned.now c.requires.held c.requires.pin;
+  tried = tried_here g.D.Disk.moment c.args.shared.now c.args.seat c.args.turn c.value.result.now c.value.ensures.value c.args.pinned.now c.requires.held c.requires.pin c.requires.tried;
+  database = database_here g.D.Disk.moment c.args.shared.now c.args.seat c.args.turn c.value.result.now c.value.ensures.value c.args.pinned.now c.requires.held c.requires.pin
+      c.is_at.ensures.at;
+  fit = c.requires.fit;
+  workers = c.requires.workers;
+}

@@ -1,27 +1,10 @@
-use Rattle.std.proofs.Common.{◌≡◌, ◌∙◌, IsTrue, false, ap, length, subst, sym}
+use Rattle.std.proofs.Common.{◌∙◌, ap, length, subst, sym}
 use Rattle.plan_changes.specs.Stored.{AreStored}
-use Rattle.event_core.specs.Allowed.{is_pinned}
 use Rattle.snapshot_manager.specs.Lent.{turn_with}
-use Rattle.store_ledger.specs.Ledger.{history, is_noted, is_tried}
 use Rattle.store_state.specs.At.{standing}
-use Rattle.snapshot_manager.specs.Databases.{HasDatabase}
-use Rattle.session_sources.specs.Held.{names_now}
-use Rattle.session_answers.specs.Inner.Turns.{Goes, KeepsTurn, goes_short}
+use Rattle.session_answers.specs.Inner.Turns.{Goes, IsOver, KeepsTurn, goes_short}
 use Rattle.session_answers.proofs.Going.{keeps_same}
 use Rattle.session_answers.proofs.turns.held.answer_in_turn.Goals as goal
-
-pub answer_over-requires-clause-pinned : goal.answer_over-requires-clause-pinned
-answer_over-requires-clause-pinned g c κs within =
-    subst (λ p. IsTrue (is_pinned c.args.session (history p.ledger))) (sym c.value-store.ensures.value) c.requires.pinned
-
-pub answer_over-requires-clause-tried : goal.answer_over-requires-clause-tried
-answer_over-requires-clause-tried g c κs within =
-    subst (λ p. is_noted is_tried p.ledger c.args.session ≡ false) (sym c.value-store.ensures.value) c.requires.tried
-
-pub answer_over-requires-clause-database : goal.answer_over-requires-clause-database
-answer_over-requires-clause-database g c κs within =
-    let moment = g.D.Disk.moment in
-    subst (λ p. HasDatabase moment (standing moment p) (length p.ledger.entries) (names_now p.ledger)) (sym c.value-store.ensures.value) c.requires.database
 
 pub answer_over-requires-clause-names : goal.answer_over-requires-clause-names
 answer_over-requires-clause-names g c κs within = c.in-Ok.ensures ∙ c.names.ensures.names
@@ -46,8 +29,6 @@ returns-in-Err g c =
       goes = goes_short (ap (standing moment) e) c.want.ensures.want (c.want.ensures.place ∙ ap length c.history.ensures);
     }
 
-pub answer_over-requires-clause-fit : goal.answer_over-requires-clause-fit
-answer_over-requires-clause-fit g c κs within = c.requires.fit
-
-pub answer_over-requires-clause-workers : goal.answer_over-requires-clause-workers
-answer_over-requires-clause-workers g c κs within = c.requires.workers
+pub answer_over-requires-clause-over : goal.answer_over-requires-clause-over
+answer_over-requires-clause-over g c κs within =
+    subst (λ t. IsOver c.args.options.now g.D.Disk.moment c.args.session t c.args.tree.now) (sym (ap (turn_with c.args.turn) c.value-store.ensures.value)) c.requires.over

@@ -20,9 +20,9 @@ answer_read-requires g c =
     read_by moment c.args.session c.args.turn c.new-source.result c.new-source.ensures c.args.names.now c.requires.names style new o.new.source o.ensures.start
     c.into_turn.ensures.turn c.into_turn.ensures.held
     c.args.text.now c.args.tree.now o.result o.ensures.kind o.ensures.told o.ensures.cause o.ensures.allowed in record {
-      pinned = pinned_read moment style c.args.session c.args.turn new c.requires.database c.args.text.now c.args.tree.now o.result read;
-      tried = tried_read moment style c.args.session c.args.turn new c.requires.database c.args.text.now c.args.tree.now o.result read c.requires.tried;
-      asked = asked_read moment style c.args.session c.args.turn new c.requires.database c.args.text.now c.args.tree.now o.result read;
+      pinned = pinned_read moment style c.args.session c.args.turn new c.requires.over.database c.args.text.now c.args.tree.now o.result read;
+      tried = tried_read moment style c.args.session c.args.turn new c.requires.over.database c.args.text.now c.args.tree.now o.result read c.requires.over.tried;
+      asked = asked_read moment style c.args.session c.args.turn new c.requires.over.database c.args.text.now c.args.tree.now o.result read;
     }
 
 pub returns : goal.returns
@@ -42,10 +42,10 @@ returns g c =
     }
 
 pub outcome_of-outcome-requires-clause-fit : goal.outcome_of-outcome-requires-clause-fit
-outcome_of-outcome-requires-clause-fit g c κs within = c.requires.fit
+outcome_of-outcome-requires-clause-fit g c κs within = c.requires.over.fit
 
 pub outcome_of-outcome-requires-clause-stored : goal.outcome_of-outcome-requires-clause-stored
 outcome_of-outcome-requires-clause-stored g c κs within = c.requires.stored
 
 pub outcome_of-outcome-requires-clause-workers : goal.outcome_of-outcome-requires-clause-workers
-outcome_of-outcome-requires-clause-workers g c κs within = c.requires.workers
+outcome_of-outcome-requires-clause-workers g c κs within = c.requires.over.workers
