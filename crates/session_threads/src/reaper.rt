@@ -12,7 +12,7 @@ use std::thread::{Threads, join};
 use turn_lock::Ring;
 
 /// Reaps once. Where no memory is found for that, the pages wait for a later reap, or for the next opening of the file.
-pub(crate) fn reap_once<D: Disk, R: Wait>(rt: &R, shared: &Shared<D>, seat: &mut Seat<D>)
+fn reap_once<D: Disk, R: Wait>(rt: &R, shared: &Shared<D>, seat: &mut Seat<D>)
     requires { IsReaper shared.now (session_of seat.old) seat.old }
     ensures { IsReaper shared.now (session_of seat.old) seat.new }
 {
@@ -33,8 +33,30 @@ fn keep<D: Disk, R: Wait>(rt: &R, shared: &Shared<D>, mut seat: Seat<D>) -> Seat
     unreachable!()
 }
 
-/// The sessions work, each on a thread of its own, and the reaper beside them. Where no thread can be made for the reaper,
-/// it comes after them.
+/// Does some work, and the reaper works beside it. It reaps once more behind both. Where no thread can be made for the reaper, it comes after
+/// the work.
+fn beside_reaper<D: Disk + Send, X, F: FnOnce() -> X, R: Threads + Wait + Sync>(
+    rt: &R,
+    shared: &Shared<D>,
+    own: Seat<D>,
+    work: F,
+) -> (X, Seat<D>)
+    requires own { IsReaper shared.now (session_of own) own }
+    requires work { F.pre work }
+    ensures work { F.post work result.0 }
+    ensures own { IsReaper shared.now (session_of own) result.1 }
+{
+    let reaper = move || -> Seat<D>
+        requires { IsReaper shared.now (session_of own) own }
+        ensures { IsReaper shared.entry.now (session_of own) result }
+    { keep(rt, shared, own) };
+    // Where no thread can be made `join` runs its second closure first, and the reaper then finds the bell closed.
+    let (mut own, done) = join(rt, reaper, work);
+    reap_once(rt, shared, &mut own);
+    (done, own)
+}
+
+/// The sessions work, each on a thread of its own, and the reaper beside them and once more behind the last.
 pub(crate) fn work_beside<
     D: Disk + Send + Drop,
     S: Source + Send + Drop,
@@ -55,15 +77,9 @@ pub(crate) fn work_beside<
     ensures desks { AllWorked options.now.style D.moment S.state K.state shared.now desks.items result.0.items }
     ensures own { IsReaper shared.now (session_of own) result.1 }
 {
-    let reaper = move || -> Seat<D>
-        requires { IsReaper shared.now (session_of own) own }
-        ensures { IsReaper shared.entry.now (session_of own) result }
-    { keep(rt, shared, own) };
     let sessions = move || -> Vec<SessionDesk<D, S, K>>
         requires { CanWork shared.now options.now.workers desks.items }
         ensures { AllWorked options.entry.now.style D.moment S.state K.state shared.entry.now desks.items result.items }
     { work_all(rt, alloc, shared, options, gate, desks) };
-    // Where no thread can be made `join` runs its second closure first, and the reaper then finds the bell closed.
-    let (own, desks) = join(rt, reaper, sessions);
-    (desks, own)
+    beside_reaper(rt, shared, own, sessions)
 }

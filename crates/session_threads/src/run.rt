@@ -12,7 +12,7 @@ ghost use Rattle.session_threads.specs.Inner.Rooms.{HasRoom};
 ghost use Rattle.run_opening.specs.declared.reports.reports.Streams.{Streams};
 
 use crate::desk::{Desk, SessionDesk};
-use crate::reaper::{reap_once, work_beside};
+use crate::reaper::work_beside;
 use crate::room::{Room, opened};
 use afl_outside::{Disk, Gate, Sink, Source};
 use afl_session::{Options, SessionReport};
@@ -59,7 +59,7 @@ pub fn run_sessions<
     }
 }
 
-// The same, over a store that is shared. The reaper reaps beside the sessions, and once more behind the last.
+// The same, over a store that is shared.
 fn run_shared<
     D: Disk + Send + Drop,
     S: Source + Send + Drop,
@@ -92,9 +92,8 @@ fn run_shared<
         reports,
     } = room;
     let (desks, own) = seated(seats, streams, desks);
-    let (desks, mut own) = work_beside(rt, alloc, &shared, options, gate, desks, own);
-    reap_once(rt, &shared, &mut own);
-    gathered(shared, own, List::from_vec(desks), room, reports)
+    let (desks, own) = work_beside(rt, alloc, &shared, options, gate, desks, own);
+    gathered(shared, own, desks, room, reports)
 }
 
 // A desk for each session, with the seat of its number and the streams of its place. The last seat is left over.
@@ -126,21 +125,21 @@ fn seated<P: Drop, W: Drop, M: Drop>(
 fn gathered<D: Disk + Drop, S: Source + Drop, K: Sink + Drop>(
     shared: Shared<D>,
     own: Seat<D>,
-    desks: List<SessionDesk<D, S, K>>,
+    desks: Vec<SessionDesk<D, S, K>>,
     seats: Vec<Seat<D>>,
     reports: Vec<SessionReport<S, K>>,
 ) -> (Store<D>, List<SessionReport<S, K>>)
-    requires count { seats_in_all shared ≡ length desks + 1 }
-    requires own { IsReaper shared (length desks) own }
-    requires desks { (style : Style) × (streams : List (Streams S K)) × AreDone style D.moment S.state K.state shared streams desks }
-    requires seats { (seats.items ≡ []) × (length desks + 1 ≤ vec_capacity seats) }
-    requires reports { (reports.items ≡ []) × (length desks ≤ vec_capacity reports) }
+    requires count { seats_in_all shared ≡ length desks.items + 1 }
+    requires own { IsReaper shared (length desks.items) own }
+    requires desks { (style : Style) × (streams : List (Streams S K)) × AreDone style D.moment S.state K.state shared streams desks.items }
+    requires seats { (seats.items ≡ []) × (length desks.items + 1 ≤ vec_capacity seats) }
+    requires reports { (reports.items ≡ []) × (length desks.items ≤ vec_capacity reports) }
     ensures start { start_of (standing D.moment result.0) ≡ start D.moment shared }
-    ensures count { length result.1 ≡ length desks }
-    ensures each { (style : Style) (streams : List (Streams S K)) → length streams ≡ length desks
-        → AreDone style D.moment S.state K.state shared streams desks
+    ensures count { length result.1 ≡ length desks.items }
+    ensures each { (style : Style) (streams : List (Streams S K)) → length streams ≡ length desks.items
+        → AreDone style D.moment S.state K.state shared streams desks.items
         → AreSessionsOf style D.moment S.state K.state (start D.moment shared) streams result.1 (events (standing D.moment result.0)) }
-    ensures others { AreOfSessions (length desks) (events (standing D.moment result.0)) }
+    ensures others { AreOfSessions (length desks.items) (events (standing D.moment result.0)) }
 {
     let (mut seats, reports) = emptied(desks, seats, reports);
     seats.push_reserved(own);
@@ -149,17 +148,18 @@ fn gathered<D: Disk + Drop, S: Source + Drop, K: Sink + Drop>(
 
 // The seats and the reports of sessions that have ended, in order.
 fn emptied<P: Drop, W: Drop, M: Drop>(
-    mut desks: List<Desk<P, W, M>>,
+    desks: Vec<Desk<P, W, M>>,
     mut seats: Vec<P>,
     mut reports: Vec<M>,
 ) -> (Vec<P>, List<M>)
-    requires ended { All (λ desk. HasEnded desk) desks }
-    requires seats { (seats.items ≡ []) × (length desks + 1 ≤ vec_capacity seats) }
-    requires reports { (reports.items ≡ []) × (length desks ≤ vec_capacity reports) }
-    ensures seats { (length result.0.items ≡ length desks) × (length desks + 1 ≤ vec_capacity result.0) }
-    ensures reports { length result.1 ≡ length desks }
-    ensures emptied { AreEmptied desks result.0.items result.1 }
+    requires ended { All (λ desk. HasEnded desk) desks.items }
+    requires seats { (seats.items ≡ []) × (length desks.items + 1 ≤ vec_capacity seats) }
+    requires reports { (reports.items ≡ []) × (length desks.items ≤ vec_capacity reports) }
+    ensures seats { (length result.0.items ≡ length desks.items) × (length desks.items + 1 ≤ vec_capacity result.0) }
+    ensures reports { length result.1 ≡ length desks.items }
+    ensures emptied { AreEmptied desks.items result.0.items result.1 }
 {
+    let mut desks = List::from_vec(desks);
     let count = desks.len();
     for _ in 0..count {
         let (seat, report) = desks.remove(0).into_done();

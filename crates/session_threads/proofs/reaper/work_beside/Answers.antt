@@ -1,15 +1,4 @@
-use denote.Exit.{no}
-use denote.Param.Send.{arg_send, param_send, shr_send}
-use Rattle.session_threads.proofs.Crossing.{seat_send, shared_sync, three_send}
 use Rattle.session_threads.proofs.reaper.work_beside.Goals as goal
 
-pub join-own-requires-send-F : goal.join-own-requires-send-F
-join-own-requires-send-F g c κs within =
-    let t = c.type_bounds in
-    param_send 1 _ (arg_send _ no _ (three_send _ _ _ _ (shr_send _ _ _ t.sync-R) (shr_send _ _ _ (shared_sync _ _ t.send-D)) (seat_send _ _ t.send-D)))
-
-pub join-own-requires-send-A : goal.join-own-requires-send-A
-join-own-requires-send-A g c κs within = param_send 3 _ (arg_send _ no _ (seat_send _ _ c.type_bounds.send-D))
-
 pub returns-clause-desks : goal.returns-clause-desks
-returns-clause-desks g c = c.join-own.ensures.second
+returns-clause-desks g c = c.beside_reaper.ensures.work

@@ -4,10 +4,10 @@ use Rattle.session_threads.proofs.run.emptied.Given as goal
 
 abbrev pub invariant-loop : goal.invariant-loop
 invariant-loop g l = record {
-  desks : l.desks ≡ drop l.counter l.fn.desks;
+  desks : l.desks ≡ drop l.counter l.fn.desks.items;
   seats : length l.seats.items ≡ l.counter;
   reports : length l.reports.items ≡ l.counter;
-  seat_room : length l.fn.desks + 1 ≤ vec_capacity l.seats;
-  report_room : length l.fn.desks ≤ vec_capacity l.reports;
-  emptied : AreEmptied l.fn.desks l.seats.items l.reports.items;
+  seat_room : length l.fn.desks.items + 1 ≤ vec_capacity l.seats;
+  report_room : length l.fn.desks.items ≤ vec_capacity l.reports;
+  emptied : AreEmptied l.fn.desks.items l.seats.items l.reports.items;
 }
