@@ -1,5 +1,5 @@
 -- How the bytes of a script come, and how it ends.
-use Rattle.std.proofs.Common.{◌≡◌, ℕ, ◌+◌, ◌^◌, ◌<◌, List, [], ◌∷◌, ◌++◌, length, take, drop, get_or, true, false, Ok, Err, refl, sym, ◌∙◌, ap, subst, arith, append_assoc, length-append, length-take-le}
+use Rattle.std.proofs.Common.{◌≡◌, ℕ, ◌+◌, ◌^◌, ◌<◌, List, [], ◌∷◌, ◌++◌, length, take, drop, get_or, true, false, Ok, Err, Some, inl, inr, refl, sym, ◌∙◌, ap, subst, arith, append_assoc, length-append, length-take-le}
 use Rattle.std.proofs.lemmas.List.{take_more, take-append-drop}
 use Rattle.afl_lexer.specs.Split.{Statement, statements, closed_statements}
 use Rattle.afl_lexer.specs.Inner.Standing.{Splitting, StandsAfter, bytes_read}
@@ -7,7 +7,7 @@ use Rattle.std.specs.Io.KnownBytes.{IsAtEnd}
 use Rattle.afl_outside.specs.Counts.{Rose}
 use Rattle.afl_outside.specs.Source.{SourceState, Gives}
 use Rattle.afl_outside.proofs.Streams.{Takes-nothing}
-use Rattle.afl_session.specs.Inner.Serving.{EndsServing, GoesOn, HasAnswered, HasStopped, IsServing, Reached, StopsWithin, end_of}
+use Rattle.afl_session.specs.Inner.Serving.{EndsServing, GoesOn, HasAnswered, HasStopped, HasTaken, IsServing, Reached, StopsWithin, end_of}
 use Rattle.afl_session.specs.Session.{AnswerRule, Replies, Serves}
 use Rattle.run_opening.specs.declared.reports.reports.SessionEnd.{SessionEnd}
 use Rattle.run_opening.specs.declared.reports.reports.SessionEnd.TheVariants.{Whole, Source, Sink, Memory as Wanting}
@@ -19,6 +19,10 @@ use Rattle.afl_session.specs.declared.scripts.streams.Stopped.TheVariants.{Fault
 
 pub read_more : (script bytes : List ℕ) (i : ℕ) → i < length bytes → script ++ take (i + 1) bytes ≡ (script ++ take i bytes) ++ get_or bytes i 0 ∷ []
 read_more script bytes i within = ap (λ (x : List ℕ). script ++ x) (take_more bytes i 0 within) ∙ sym (append_assoc script (take i bytes) (get_or bytes i 0 ∷ []))
+
+pub nothing_in : (bytes : List ℕ) → length bytes ≡ 0 → bytes ≡ []
+nothing_in [] none = refl
+nothing_in (byte ∷ bytes) none = absurd (omega (arith, none))
 
 -- the statements that are closed with one byte more
 closed_more : (script bytes : List ℕ) (i : ℕ) (told : List Statement) → i < length bytes
@@ -102,7 +106,7 @@ nothing_yet Answered now marks none =
 
 module _ (Answered : AnswerRule) (source source' : SourceState) (first now : Reached) (marks : List Mark) where
   -- the source's end was met
-  pub serves_whole : (read more : List ℕ) (end : SessionEnd) → Gives source source' (read ++ more) → more ≡ [] → IsAtEnd source'.left
+  serves_whole : (read more : List ℕ) (end : SessionEnd) → Gives source source' (read ++ more) → more ≡ [] → IsAtEnd source'.left
       → EndsServing Answered first now read marks end → Serves Answered first.seen first.last now.seen source source' first.sink now.sink marks end
   serves_whole read more end gives none at_end ends = record {
     read = read;
@@ -120,7 +124,7 @@ module _ (Answered : AnswerRule) (source source' : SourceState) (first now : Rea
   }
 
   -- it stopped within the bytes that came last
-  pub serves_stopped : (read bytes : List ℕ) (stopped : Stopped) → Gives source source' (read ++ bytes) → StopsWithin Answered first now read bytes marks stopped
+  serves_stopped : (read bytes : List ℕ) (stopped : Stopped) → Gives source source' (read ++ bytes) → StopsWithin Answered first now read bytes marks stopped
       → Serves Answered first.seen first.last now.seen source source' first.sink now.sink marks (end_of stopped)
   serves_stopped read bytes Fault gives stops = record {
     read = read ++ stops.done;
@@ -148,6 +152,15 @@ module _ (Answered : AnswerRule) (source source' : SourceState) (first now : Rea
     sink_fault = λ is. absurd (cc (is));
     memory = λ is. stops.stops.memory refl;
   }
+
+  -- it ended with a piece, which is empty at the script's end
+  pub serves_ended : (read bytes : List ℕ) (splitter : Splitting) (end : SessionEnd) → Gives source source' (read ++ bytes)
+      → (bytes ≡ [] → IsAtEnd source'.left) → HasTaken Answered first now read bytes splitter marks (Some end)
+      → Serves Answered first.seen first.last now.seen source source' first.sink now.sink marks end
+  serves_ended read bytes splitter end gives at_end (inl whole) = serves_whole read bytes end gives whole.0 (at_end whole.0) whole.1
+  serves_ended read bytes splitter end gives at_end (inr stopped) =
+      subst (λ (e : SessionEnd). Serves Answered first.seen first.last now.seen source source' first.sink now.sink marks e) (sym stopped.1)
+      (serves_stopped read bytes stopped.0 gives stopped.2)
 
   -- the source failed
   pub serves_early : (read : List ℕ) (splitter : Splitting) → Gives source source' (read ++ []) → Rose source.faults source'.faults

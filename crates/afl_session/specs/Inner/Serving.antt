@@ -1,5 +1,5 @@
 -- A session between two bytes of its script.
-use Rattle.std.specs.Prelude.{◌≡◌, ◌⊎◌, ℕ, true, List, [], ◌∷◌, ◌++◌, Option, Result, MatchResult}
+use Rattle.std.specs.Prelude.{◌≡◌, ◌⊎◌, ℕ, true, List, [], ◌∷◌, ◌++◌, Option, None, Some, Result, MatchResult}
 use Rattle.afl_lexer.specs.Split.{Statement, closed_statements, statements as all_statements}
 use Rattle.afl_lexer.specs.Inner.Standing.{Splitting, StandsAfter}
 use Rattle.afl_outside.specs.Counts.{Rose}
@@ -87,3 +87,11 @@ GoesOn Answered now now' marks marks' more outcome = (first : Reached) (before :
 abbrev pub end_of : Stopped → SessionEnd
 end_of Fault = Sink
 end_of causes.Memory = ends.Memory
+
+module _ (Answered : AnswerRule) (first now : Reached) where
+  -- the next bytes of a script were taken, of which none is its end: all is answered so far, or the session ended there
+  abbrev pub HasTaken : List ℕ → List ℕ → Splitting → List Mark → Option SessionEnd → Type 0
+  HasTaken script bytes splitter marks None = IsServing Answered first now (script ++ bytes) splitter marks
+  HasTaken script bytes splitter marks (Some end) =
+      ((bytes ≡ []) × EndsServing Answered first now script marks end)
+      ⊎ ((stopped : Stopped) × (end ≡ end_of stopped) × StopsWithin Answered first now script bytes marks stopped)

@@ -1,8 +1,8 @@
 //! A session, from the bytes of its script to the texts of its replies.
-ghost use Rattle.std.specs.Prelude.{◌≡◌, ℕ, List, [], ◌++◌, ◌+◌, ◌<◌, ◌≤◌, ◌^◌, length, MatchResult};
+ghost use Rattle.std.specs.Prelude.{◌≡◌, ℕ, List, [], ◌++◌, ◌+◌, ◌<◌, ◌≤◌, ◌^◌, length, MatchResult, None};
 ghost use Rattle.afl_lexer.specs.Inner.Standing.{StandsAfter, told};
 ghost use Rattle.snapshot_manager.specs.Seats.{last_place, seen, session_of, start, HoldsNone, IsIdle, IsSeatOf};
-ghost use Rattle.afl_session.specs.Inner.Serving.{EndsServing, GoesOn, IsServing, Reached, StopsWithin, end_of, reached};
+ghost use Rattle.afl_session.specs.Inner.Serving.{EndsServing, GoesOn, HasTaken, IsServing, Reached, StopsWithin, end_of, reached};
 ghost use Rattle.afl_session.specs.Marked.{IsMarked};
 ghost use Rattle.afl_session.specs.Session.{Serves};
 
@@ -158,6 +158,41 @@ impl<K: Sink> Session<K> {
             Err(stopped) => (stopped.end(), seat),
         }
     }
+
+    /// Takes the next piece of the script, an empty one at its end. Tells how the session ended, if it ended there.
+    fn take_piece<D: Disk, R: Threads + Wait + Sync, G: Gate>(
+        &mut self,
+        rt: &R,
+        shared: &Shared<D>,
+        seat: Seat<D>,
+        bytes: &[u8],
+        options: &Options,
+        gate: &G,
+    ) -> (Option<SessionEnd>, Seat<D>)
+        requires seat { IsSeatOf shared.now seat × IsIdle seat }
+        requires none { HoldsNone D.moment shared.now seat }
+        requires workers { (1 ≤ options.now.workers) × (options.now.workers ≤ 64) }
+        requires script { (script : List ℕ) × StandsAfter script self.old.splitter × (length script + length bytes.now < 2 ^ 63) }
+        ensures seat { IsSeatOf shared.now result.1 × IsIdle result.1 }
+        ensures session { session_of result.1 ≡ session_of seat }
+        ensures none { HoldsNone D.moment shared.now result.1 }
+        ensures more { result.0 ≡ None → 0 < length bytes.now }
+        ensures taken { (session : ℕ) (first : Reached) (script : List ℕ) → session_of seat ≡ session
+            → IsServing (IsMarked options.now.style D.moment (start D.moment shared.now) session) first
+            (reached (seen seat) (last_place seat) (K.state self.old.sink)) script self.old.splitter self.old.marks.items
+            → HasTaken (IsMarked options.now.style D.moment (start D.moment shared.now) session) first
+            (reached (seen result.1) (last_place result.1) (K.state self.new.sink)) script bytes.now self.new.splitter self.new.marks.items result.0 }
+    {
+        if bytes.is_empty() {
+            let (end, seat) = self.take_end(rt, shared, seat, options, gate);
+            return (Some(end), seat);
+        }
+        let (taken, seat) = self.take_bytes(rt, shared, seat, bytes, options, gate);
+        match taken {
+            Ok(()) => (None, seat),
+            Err(stopped) => (Some(stopped.end()), seat),
+        }
+    }
 }
 
 /// Answers the script of a source, from its start to its end.
@@ -184,24 +219,15 @@ fn converse<D: Disk, S: Source, K: Sink, R: Threads + Wait + Sync, G: Gate>(
     let mut seat = seat;
     let mut piece = [0u8; PIECE];
     'pieces: loop {
-        match source.read(&mut piece) {
-            Ok(0) => return session.take_end(rt, shared, seat, options, gate),
-            Ok(count) => {
-                let (taken, back) = session.take_bytes(
-                    rt,
-                    shared,
-                    seat,
-                    &piece[..count],
-                    options,
-                    gate,
-                );
-                seat = back;
-                match taken {
-                    Ok(()) => {}
-                    Err(stopped) => return (stopped.end(), seat),
-                }
-            }
+        let count = match source.read(&mut piece) {
+            Ok(count) => count,
             Err(Failed) => return (SessionEnd::Source, seat),
+        };
+        let (end, back) = session.take_piece(rt, shared, seat, &piece[..count], options, gate);
+        seat = back;
+        match end {
+            Some(end) => return (end, seat),
+            None => {}
         }
     }
 }
