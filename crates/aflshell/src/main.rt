@@ -2,16 +2,14 @@
 #![tactic(auto)]
 
 mod help;
-mod words;
 
-use afl_host::HostShelf;
+use afl_host::{HostShelf, words_of};
 use afl_outside::OpenGate;
 use afl_run::{Notice, let_go_report, notice_line, run};
 use help::own_answer;
 use std::alloc::Global;
 use std::io::{Eprint, Print};
 use std::process::ExitCode;
-use words::words_of;
 
 const OUT_OF_MEMORY: &str = "aflshell: out of memory";
 

@@ -7,15 +7,14 @@ ghost use Rattle.test_stores.specs.Runs.{IsRun};
 
 use crate::seats::{taken, with_seat};
 use crate::tally::tallied;
-use crate::visitors::{Visitor, arrived};
-use array_store::Store;
+use crate::visitors::Visitor;
 use cell_values::{List, Memory};
 use snapshot_manager::{Seat, Shared};
 use std::alloc::Global;
 use std::sync::Wait;
 use std::thread::Threads;
 use test_kit::Transcript;
-use test_quiet::{Answer, SilentDisk, Step, step_of};
+use test_quiet::{Answer, Hold, SilentDisk, Step, step_of};
 
 /// A store that three sessions share.
 pub struct Run {
@@ -29,30 +28,24 @@ pub struct Run {
     pub room: Vec<Seat<SilentDisk>>,
 }
 
-/// What a step of one of the sessions is answered.
-fn answer_step<R: Threads + Wait + Sync>(
-    rt: &R,
-    alloc: Global,
-    run: &mut Run,
-    session: u32,
-    step: Step<'_>,
-) -> Answer
-    requires { IsRun run.old }
-    ensures { IsRun run.new }
-{
-    match session {
-        0 => run.first.answer(rt, alloc, &run.shared, step),
-        1 => run.second.answer(rt, alloc, &run.shared, step),
-        2 => run.third.answer(rt, alloc, &run.shared, step),
-        _ => Answer::Unknown,
+/// What a line asks for.
+#[derive(Clone, Copy)]
+enum Request<'a> {
+    Step(u32, Step<'a>),
+    Reap,
+    Nothing,
+}
+
+fn request_of(line: &str) -> Request<'_> {
+    match step_of(line) {
+        Some((session, step)) => Request::Step(session, step),
+        None if line == "reap" => Request::Reap,
+        None => Request::Nothing,
     }
 }
 
-fn reaped<R: Wait>(rt: &R, run: &mut Run) -> Answer
-    requires { IsRun run.old }
-    ensures { IsRun run.new }
-{
-    match run.shared.reap(rt, &mut run.reaper) {
+fn reap_answer(comes: Result<bool, Memory>) -> Answer {
+    match comes {
         Ok(comes) => Answer::Reaped(comes),
         Err(Memory) => Answer::Memory,
     }
@@ -68,10 +61,12 @@ pub fn answer_line<R: Threads + Wait + Sync>(
     requires { IsRun run.old }
     ensures { IsRun run.new }
 {
-    match step_of(line) {
-        Some((session, step)) => answer_step(rt, alloc, run, session, step),
-        None if line == "reap" => reaped(rt, run),
-        None => Answer::Unknown,
+    match request_of(line) {
+        Request::Step(0, step) => run.first.answer(rt, alloc, &run.shared, step),
+        Request::Step(1, step) => run.second.answer(rt, alloc, &run.shared, step),
+        Request::Step(2, step) => run.third.answer(rt, alloc, &run.shared, step),
+        Request::Reap => reap_answer(run.shared.reap(rt, &mut run.reaper)),
+        Request::Step(..) | Request::Nothing => Answer::Unknown,
     }
 }
 
@@ -92,21 +87,27 @@ pub fn seated(
     let third = taken(&shared, &mut seats);
     let second = taken(&shared, &mut seats);
     let first = taken(&shared, &mut seats);
-    let first = arrived(&shared, first);
-    let second = arrived(&shared, second);
-    let third = arrived(&shared, third);
     Run {
         shared,
-        first,
-        second,
-        third,
+        first: Visitor {
+            seat: first,
+            held: Hold::Free,
+        },
+        second: Visitor {
+            seat: second,
+            held: Hold::Free,
+        },
+        third: Visitor {
+            seat: third,
+            held: Hold::Free,
+        },
         reaper,
         room,
     }
 }
 
-/// The store, taken back from all.
-fn finished(run: Run) -> Store<SilentDisk>
+/// Takes the store back from all, and adds what its history tells.
+pub fn push_finished(out: &mut Transcript, run: Run)
     requires { IsRun run }
 {
     let Run {
@@ -124,12 +125,5 @@ fn finished(run: Run) -> Store<SilentDisk>
     let Visitor { seat, .. } = third;
     let three = with_seat(&shared, two, seat);
     let all = with_seat(&shared, three, reaper);
-    shared.finish(List::from_vec(all))
-}
-
-/// Takes the store back from all, and adds what its history tells.
-pub fn push_finished(out: &mut Transcript, run: Run)
-    requires { IsRun run }
-{
-    drop(tallied(out, finished(run), 3));
+    drop(tallied(out, shared.finish(List::from_vec(all)), 3));
 }

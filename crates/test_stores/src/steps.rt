@@ -1,98 +1,38 @@
 //! Steps of a session at a shared store.
-ghost use Rattle.std.specs.Prelude.{◌≡◌};
+ghost use Rattle.std.specs.Prelude.{◌≡◌, OnErr};
 ghost use Rattle.store_state.specs.At.{standing};
 ghost use Rattle.store_state.specs.Events.{events};
+ghost use Rattle.snapshot_manager.specs.Commits.{IfStale, OnEnd};
 ghost use Rattle.snapshot_manager.specs.Starts.{start_of};
-ghost use Rattle.snapshot_manager.specs.Seats.{HasTurn, HoldsNone, IsIdle, IsSameSeat, IsSeatOf, seen, start, store_of};
+ghost use Rattle.snapshot_manager.specs.Seats.{HasTurn, IsIdle, IsSameSeat, IsSeatOf, seen, start, store_of};
+ghost use Rattle.plan_changes.specs.Stored.{HasItsNames};
 ghost use Rattle.test_quiet.specs.Offers.{IsOffer};
-ghost use Rattle.test_stores.specs.Visits.{IsFree, IsHeld, IsPinOf, IsUntold, IsUntried};
+ghost use Rattle.test_stores.specs.Visits.{IsFree, IsPinOf, IsUntold, IsUntried};
 
 use afl_outside::Disk;
-use cell_values::Name;
-use plan_changes::{changed_name, has_its_names, newest_of};
-use snapshot_manager::{Commit, CommitFault, Seat, Shared, Store, StoreTurn};
+use cell_values::{List, Name};
+use logical_plan::NameEntry;
+use plan_changes::{Change, changed_name, has_its_names, newest_of};
+use snapshot_manager::{Commit, CommitFault, Seat, Shared};
 use std::alloc::Global;
 use std::sync::Wait;
 use std::thread::Threads;
-use store_ledger::{PinFault, Pinned};
-use test_quiet::{Answer, Hold, Offer, offer_over};
+use store_ledger::Pinned;
+use test_quiet::{Answer, Offer, offer_over};
 
-/// A session that has no pin begins to have one.
-pub(crate) fn pin<D: Disk, R: Wait>(
-    rt: &R,
-    shared: &Shared<D>,
-    seat: &mut Seat<D>,
-    held: Hold,
-) -> (Hold, Answer)
-    requires seat { IsSeatOf shared.now seat.old × IsIdle seat.old }
-    requires held { IsHeld D.moment shared.now seat.old held }
-    ensures seat { IsSeatOf shared.now seat.new × IsIdle seat.new }
-    ensures held { IsHeld D.moment shared.now seat.new result.0 }
+/// The name of the array that a change is about, if there is memory for it.
+fn name_in(change: &Change) -> Option<Name>
+    ensures { HasItsNames change.now }
 {
-    match held {
-        Hold::Free => match shared.pin(rt, seat) {
-            Ok(pinned) => {
-                let place = pinned.place;
-                (Hold::Pinned(pinned), Answer::At { place })
-            }
-            Err(PinFault::HistoryFull { entries }) => (Hold::Free, Answer::HistoryFull { entries }),
-            Err(PinFault::Memory) => (Hold::Free, Answer::Memory),
-        },
-        Hold::Pinned(pinned) => (Hold::Pinned(pinned), Answer::HasPin),
-        Hold::Tried(pinned) => (Hold::Tried(pinned), Answer::HasPin),
-    }
+    has_its_names(change);
+    changed_name(change).copy().ok()
 }
 
-/// The pin of a session goes, if it has one.
-pub(crate) fn unpin<D: Disk, R: Wait>(
-    rt: &R,
-    shared: &Shared<D>,
-    seat: &mut Seat<D>,
-    held: Hold,
-) -> Answer
-    requires seat { IsSeatOf shared.now seat.old × IsIdle seat.old }
-    requires held { IsHeld D.moment shared.now seat.old held }
-    ensures seat { IsSeatOf shared.now seat.new × IsIdle seat.new }
-    ensures none { HoldsNone D.moment shared.now seat.new }
-{
-    match held {
-        Hold::Free => Answer::HasNoPin,
-        Hold::Pinned(pinned) => {
-            shared.unpin(rt, seat, pinned);
-            Answer::Done
-        }
-        Hold::Tried(pinned) => {
-            shared.unpin(rt, seat, pinned);
-            Answer::Done
-        }
-    }
-}
-
-fn newest_in<D: Disk>(store: &Store<D>, name: &Option<Name>) -> u32 {
+fn newest_in(arrays: &List<NameEntry>, name: &Option<Name>) -> u32 {
     match name {
-        Some(name) => newest_of(&store.names().arrays, name),
+        Some(name) => newest_of(arrays, name),
         None => 0,
     }
-}
-
-/// Ends the turn that a commit has handed out. The store in hand tells the newest version of the array.
-fn given_back<D: Disk, R: Wait>(
-    rt: &R,
-    shared: &Shared<D>,
-    seat: &mut Seat<D>,
-    mut turn: StoreTurn<D>,
-    name: &Option<Name>,
-) -> Answer
-    requires seat { IsSeatOf shared.now seat.old × HasTurn seat.old turn }
-    requires began { start_of (standing D.moment (store_of turn)) ≡ start D.moment shared.now }
-    requires events { events (standing D.moment (store_of turn)) ≡ seen seat.old }
-    ensures seat { IsSeatOf shared.now seat.new × IsIdle seat.new }
-    ensures same { IsSameSeat seat.old seat.new }
-    ensures seen { seen seat.new ≡ seen seat.old }
-{
-    let newest = newest_in(turn.value(), name);
-    shared.end_turn(rt, seat, turn);
-    Answer::StaleTo { newest }
 }
 
 /// Why a change isn't committed.
@@ -102,6 +42,34 @@ fn answer_of(fault: CommitFault) -> Answer {
         CommitFault::Full { needed, free, .. } => Answer::Full { needed, free },
         CommitFault::Disk { .. } => Answer::Disk,
         CommitFault::Memory => Answer::Memory,
+    }
+}
+
+/// Ends the turn that a commit may have handed out. The store in hand tells the newest version of the array.
+fn given_back<D: Disk, R: Wait>(
+    rt: &R,
+    shared: &Shared<D>,
+    seat: &mut Seat<D>,
+    name: &Option<Name>,
+    found: Result<Commit<D>, CommitFault>,
+) -> Answer
+    requires seat { IsSeatOf shared.now seat.old }
+    requires idle { OnEnd (IsIdle seat.old) found }
+    requires turn { IfStale (λ turn. HasTurn seat.old turn) found }
+    requires began { IfStale (λ turn. start_of (standing D.moment (store_of turn)) ≡ start D.moment shared.now) found }
+    requires events { IfStale (λ turn. events (standing D.moment (store_of turn)) ≡ seen seat.old) found }
+    ensures seat { IsSeatOf shared.now seat.new × IsIdle seat.new }
+    ensures same { IsSameSeat seat.old seat.new }
+    ensures seen { seen seat.new ≡ seen seat.old }
+{
+    match found {
+        Ok(Commit::Done { place }) => Answer::At { place },
+        Ok(Commit::Stale(mut turn)) => {
+            let newest = newest_in(&turn.value().names().arrays, name);
+            shared.end_turn(rt, seat, turn);
+            Answer::StaleTo { newest }
+        }
+        Err(fault) => answer_of(fault),
     }
 }
 
@@ -122,40 +90,37 @@ fn committed<D: Disk, R: Wait>(
     ensures pin { IsPinOf D.moment shared.now seat.new pinned.now }
 {
     let Offer { change, changed } = offer;
-    let name = changed_name(&change).copy().ok();
-    has_its_names(&change);
-    match shared.commit(rt, alloc, seat, pinned, change, changed) {
-        Ok(Commit::Done { place }) => Answer::At { place },
-        Ok(Commit::Stale(turn)) => given_back(rt, shared, seat, turn, &name),
-        Err(fault) => answer_of(fault),
-    }
+    let name = name_in(&change);
+    let found = shared.commit(rt, alloc, seat, pinned, change, changed);
+    given_back(rt, shared, seat, &name, found)
 }
 
-/// The change that a text is under a session's pin, committed under it.
-pub(crate) fn change<D: Disk, R: Threads + Wait + Sync>(
+/// What the commit of the change is answered that a text is under a session's pin; else why none was tried.
+pub(crate) fn changed<D: Disk, R: Threads + Wait + Sync>(
     rt: &R,
     alloc: Global,
     shared: &Shared<D>,
     seat: &mut Seat<D>,
-    held: Hold,
+    pinned: &Pinned,
     text: &[u8],
-) -> (Hold, Answer)
+) -> Result<Answer, Answer>
     requires untold { IsUntold D.moment shared.now }
     requires seat { IsSeatOf shared.now seat.old × IsIdle seat.old }
-    requires held { IsHeld D.moment shared.now seat.old held }
+    requires pin { IsUntried D.moment shared.now seat.old pinned.now }
     ensures seat { IsSeatOf shared.now seat.new × IsIdle seat.new }
-    ensures held { IsHeld D.moment shared.now seat.new result.0 }
+    ensures pin { IsPinOf D.moment shared.now seat.new pinned.now }
+    ensures untried { OnErr result (IsUntried D.moment shared.now seat.new pinned.now) }
 {
-    match held {
-        Hold::Free => (Hold::Free, Answer::HasNoPin),
-        Hold::Tried(pinned) => (Hold::Tried(pinned), Answer::HasUsed),
-        Hold::Pinned(pinned) => match offer_over(rt, alloc, &pinned.names, text) {
-            Ok(offer) => {
-                let answer = committed(rt, alloc, shared, seat, &pinned, offer);
-                (Hold::Tried(pinned), answer)
-            }
-            Err(answer) => (Hold::Pinned(pinned), answer),
-        },
+    match offer_over(rt, alloc, &pinned.names, text) {
+        Ok(offer) => Ok(committed(rt, alloc, shared, seat, pinned, offer)),
+        Err(answer) => Err(answer),
+    }
+}
+
+/// An answer, whether a commit was tried or none.
+fn either(found: Result<Answer, Answer>) -> Answer {
+    match found {
+        Ok(answer) | Err(answer) => answer,
     }
 }
 
@@ -171,10 +136,12 @@ pub fn commit_once<D: Disk, R: Threads + Wait + Sync>(
     requires free { IsFree D.moment shared.now seat.old }
     ensures { IsFree D.moment shared.now seat.new }
 {
-    let (held, begun) = pin(rt, shared, seat, Hold::Free);
-    drop(begun);
-    let (held, answer) = change(rt, alloc, shared, seat, held, text);
-    let ended = unpin(rt, shared, seat, held);
-    drop(ended);
-    answer
+    match shared.pin(rt, seat) {
+        Ok(pinned) => {
+            let answer = changed(rt, alloc, shared, seat, &pinned, text);
+            shared.unpin(rt, seat, pinned);
+            either(answer)
+        }
+        Err(_) => Answer::HasNoPin,
+    }
 }

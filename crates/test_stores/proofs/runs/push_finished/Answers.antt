@@ -1,7 +1,7 @@
 use Rattle.std.proofs.Common.{◌∙◌, ◌+◌, ap, length, subst, sym}
 use Rattle.snapshot_manager.specs.Seats.{AreIdleSeats}
 use Rattle.test_stores.proofs.Seeing.{none_are_idle}
-use Rattle.test_stores.proofs.runs.finished.Goals as goal
+use Rattle.test_stores.proofs.runs.push_finished.Goals as goal
 
 pub with_seat-one-requires-clause-seats : goal.with_seat-one-requires-clause-seats
 with_seat-one-requires-clause-seats c = none_are_idle c.args.run.shared c.args.run.room.items c.requires.room.0

@@ -1,7 +1,7 @@
-//! The words that the program was given.
+//! The words that a program was given.
 
-use afl_run::Arg;
 use cell_values::Memory;
+use command_words::Arg;
 use std::alloc::Global;
 use std::env::{Env, FillError};
 
@@ -9,7 +9,7 @@ use std::env::{Env, FillError};
 const NO_TEXT: &str = "--";
 
 /// The words, without the program's name.
-pub(crate) fn words_of(env: &impl Env, alloc: Global) -> Result<Vec<Arg>, Memory> {
+pub fn words_of(env: &impl Env, alloc: Global) -> Result<Vec<Arg>, Memory> {
     let mut words = Vec::new(alloc);
     for place in 1..usize::MAX {
         match word_at(env, alloc, place)? {
