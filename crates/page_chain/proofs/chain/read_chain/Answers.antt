@@ -1,4 +1,4 @@
-use Rattle.std.proofs.Common.{◌≡◌, ℕ, ◌+◌, ◌-◌, ◌*◌, List, ◌++◌, length, drop, refl, sym, ap, ◌∙◌, arith, length-append, length-drop}
+use Rattle.std.proofs.Common.{◌≡◌, ℕ, ◌+◌, ◌-◌, ◌*◌, List, length, drop, refl, sym, ap, ◌∙◌, arith, length-append, length-drop}
 use Rattle.page_chain.specs.Pages.{page_size}
 use Rattle.page_chain.specs.Chains.{content_size}
 use Rattle.page_chain.proofs.Kept.{size_is}

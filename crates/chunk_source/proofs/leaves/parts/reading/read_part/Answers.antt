@@ -1,11 +1,10 @@
-use Rattle.std.proofs.Common.{◌≡◌, ℕ, List, map, ap, ◌∙◌, subst}
+use Rattle.std.proofs.Common.{ℕ, List, map, ap, ◌∙◌, subst}
 use Rattle.std.specs.List.{AllZip}
 use Rattle.arrayvec.specs.ArrayVec.{ArrayVec}
 use Rattle.array_geom.specs.Geometry.{core_meets}
 use Rattle.plan_needs.specs.Wanted.{wanted_of}
 use Rattle.chunk_source.specs.Source.{IsStored, asks, listed}
 use Rattle.chunk_source.proofs.ReadLemmas.{asked_after, asked_all, asked_none, front_after, keeps_on, on_err, reads_still}
-use Rattle.chunk_source.specs.Inner.Alone.{stand_alone}
 use Rattle.chunk_source.proofs.AssembledLaws.{valid_stored}
 use Rattle.chunk_source.proofs.ReadLaws.{told_by_calls, wanted_among}
 use Rattle.chunk_source.proofs.leaves.parts.reading.read_part.Goals as goal
