@@ -1,12 +1,10 @@
 //! The shell: the top call over the real streams and files.
 #![tactic(auto)]
 
-mod help;
-
 use afl_host::{HostShelf, words_of};
 use afl_outside::OpenGate;
 use afl_run::{Notice, let_go_report, notice_line, run};
-use help::own_answer;
+use command_words::own_answer;
 use std::alloc::Global;
 use std::io::{Eprint, Print};
 use std::process::ExitCode;

@@ -1,5 +1,6 @@
 pub mod Faults
 pub mod Forms
+pub mod Help
 pub mod Inner
 pub mod Laws
 pub mod Script

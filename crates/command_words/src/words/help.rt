@@ -1,8 +1,8 @@
 //! What the program says of itself.
 ghost use Rattle.std.specs.Prelude.{IsSome, ◌↔◌};
-ghost use Rattle.aflshell.specs.Help.{AreOwn};
+ghost use Rattle.command_words.specs.Help.{AreOwn};
 
-use afl_run::Arg;
+use crate::words::arg::Arg;
 
 const HELP: &str = "\
 usage: aflshell try
@@ -46,7 +46,7 @@ The exit status is
 const VERSION: &str = "aflshell 0.1.0\n";
 
 /// The answer to the single word `--help` or `--version`.
-pub(crate) fn own_answer(words: &[Arg]) -> Option<&'static str>
+pub fn own_answer(words: &[Arg]) -> Option<&'static str>
     ensures { IsSome result ↔ AreOwn words.now }
 {
     let [word] = words else {
