@@ -1,5 +1,4 @@
-//! Prints what comes of tables of cases: of calls on values, of texts, of files, catalogues and sources, and of runs of the program's top call
-//! and of commits, turns and threads below it.
+//! Prints what comes of tables of cases: of calls on values, of texts, of files, catalogues and sources, and of commits, turns and threads.
 //!
 //! Standard input has the tables, each behind a line that begins with `### ` and has its title. Each title is printed with what the library
 //! that knows it makes of the lines.
@@ -11,24 +10,17 @@ use std::io::Read;
 use std::str::from_utf8;
 use std::sync::Wait;
 use std::thread::Threads;
-use std::time::Clock;
 use test_catalogs::push_catalog_table;
 use test_changes::push_change_table;
 use test_commits::push_commit_table;
 use test_kit::Transcript;
 use test_language::push_language_table;
 use test_pages::push_page_table;
-use test_runs::push_run_table;
 use test_sources::push_source_table;
 use test_values::push_value_table;
 
 /// Adds the title of a table, and what comes of its lines.
-fn push_table<R: AllocGlobal + Threads + Wait + Clock + Sync>(
-    rt: &R,
-    out: &mut Transcript,
-    title: &str,
-    lines: &[u8],
-) {
+fn push_table<R: Threads + Wait + Sync>(rt: &R, out: &mut Transcript, title: &str, lines: &[u8]) {
     let text = from_utf8(lines).unwrap_or("");
     push_value_table(out, title, text);
     push_language_table(out, title, lines);
@@ -36,16 +28,11 @@ fn push_table<R: AllocGlobal + Threads + Wait + Clock + Sync>(
     push_catalog_table(out, title, text);
     push_change_table(out, title);
     push_source_table(rt, out, title, text);
-    push_run_table(rt, out, title, text);
     push_commit_table(rt, out, title, text);
 }
 
 /// Adds for each table its title, and what comes of its lines.
-fn push_tables<R: AllocGlobal + Threads + Wait + Clock + Sync>(
-    rt: &R,
-    out: &mut Transcript,
-    text: &[u8],
-) {
+fn push_tables<R: Threads + Wait + Sync>(rt: &R, out: &mut Transcript, text: &[u8]) {
     let mut title: &[u8] = &[];
     let mut start = 0usize;
     let mut end = 0usize;
