@@ -5,6 +5,7 @@ mod cross_numbers;
 mod cross_pieces;
 mod crossed;
 mod joined;
+mod meeting;
 mod pieces;
 
 pub use crossed::cross_join;

@@ -61,13 +61,13 @@ all_pushed area reach gs rows items i made e l h =
 -- ---- what windows reach
 
 -- numbers that stay in 64 bits with a window behind them
-abbrev AreHigh : List ℤ → Type 0
+abbrev pub AreHigh : List ℤ → Type 0
 AreHigh = AllByRecursion (λ h. h ≤ℤ pos (2 ^ 62 + 2 ^ 50))
 
 high_number : (d : Dimension) (k m : ℕ) → IsNear d → first_in d k ≤ℤ d.hi → d.chunk + 2 * m ≤ 2 ^ 48 → (last_in d k +ℤ pos m) ≤ℤ pos (2 ^ 62 + 2 ^ 50)
 high_number d k m near first small = let high = near.high in omega (arith, ints, high, first, small)
 
-highs_in_range : (dims : List Dimension) (margins : List ℕ) (k : ChunkNumber) → AreNear dims → has_core dims k ≡ true → AreMargins dims margins → AreHigh (frame dims margins k).hi.items
+pub highs_in_range : (dims : List Dimension) (margins : List ℕ) (k : ChunkNumber) → AreNear dims → has_core dims k ≡ true → AreMargins dims margins → AreHigh (frame dims margins k).hi.items
 highs_in_range [] margins k n e a = tt
 highs_in_range (d ∷ dims) margins [] n e a = tt
 highs_in_range (d ∷ dims) [] (k ∷ ks) n e a = tt
@@ -94,7 +94,7 @@ high_reached h x y after high short a b c =
     subst (λ (z : ℤ). y ≤ℤ z) (sym same) reach
 
 -- a window around a coordinate of a box lies in what the windows around its coordinates reach
-covers : (lo hi : List ℤ) (reach : List Reach) (c y : Coordinate) → AreLow lo → AreHigh hi → AreShort reach → is_between lo hi c ≡ true → is_inside (window reach c) y ≡ true → is_inside (reached reach (corners lo hi)) y ≡ true
+pub covers : (lo hi : List ℤ) (reach : List Reach) (c y : Coordinate) → AreLow lo → AreHigh hi → AreShort reach → is_between lo hi c ≡ true → is_inside (window reach c) y ≡ true → is_inside (reached reach (corners lo hi)) y ≡ true
 covers [] [] reach [] y a b s e f = f
 covers [] [] reach (x ∷ c) y a b s e f = absurd cc
 covers [] (h ∷ hi) reach c y a b s e f = absurd cc
@@ -113,13 +113,13 @@ covers (l ∷ lo) (h ∷ hi) (r ∷ reach) (x ∷ c) (y ∷ ys) a b s e f =
     (covers lo hi reach c ys a.1 b.1 s.1 t.others u.others)
 
 -- a coordinate lies in its own window
-own_window : (reach : List Reach) (c : Coordinate) → length reach ≡ length c → is_inside (window reach c) c ≡ true
+pub own_window : (reach : List Reach) (c : Coordinate) → length reach ≡ length c → is_inside (window reach c) c ≡ true
 own_window [] [] e = refl
 own_window [] (x ∷ c) e = absurd (omega (arith, e))
 own_window (r ∷ reach) [] e = absurd (omega (arith, e))
 own_window (r ∷ reach) (x ∷ c) e = side (x -ℤ pos r.before) (x +ℤ pos r.after) x (is_inside (window reach c) c) (omega (arith, ints)) (omega (arith, ints)) (own_window reach c (omega (arith, e)))
 
-as_long : (lo hi : List ℤ) (c : Coordinate) → is_between lo hi c ≡ true → length c ≡ length lo
+pub as_long : (lo hi : List ℤ) (c : Coordinate) → is_between lo hi c ≡ true → length c ≡ length lo
 as_long [] [] [] e = refl
 as_long [] [] (x ∷ c) e = absurd cc
 as_long [] (h ∷ hi) c e = absurd cc
@@ -127,7 +127,7 @@ as_long (l ∷ lo) [] c e = absurd cc
 as_long (l ∷ lo) (h ∷ hi) [] e = absurd cc
 as_long (l ∷ lo) (h ∷ hi) (x ∷ c) e = let t = and_parts (int_le l x && int_le x h) (is_between lo hi c) e in ap suc (as_long lo hi c t.1)
 
-low_length : (dims : List Dimension) (margins : List ℕ) (k : ChunkNumber) → has_core dims k ≡ true → length margins ≡ length dims → length (frame_low dims margins k) ≡ length dims
+pub low_length : (dims : List Dimension) (margins : List ℕ) (k : ChunkNumber) → has_core dims k ≡ true → length margins ≡ length dims → length (frame_low dims margins k) ≡ length dims
 low_length [] margins [] e n = refl
 low_length [] margins (k ∷ ks) e n = absurd cc
 low_length (d ∷ dims) margins [] e n = absurd cc

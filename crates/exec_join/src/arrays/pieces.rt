@@ -2,8 +2,7 @@
 ghost use Rattle.std.specs.Prelude.{◌≡◌, None, length, IfOk};
 ghost use Rattle.std.specs.List.{AllByRecursion};
 ghost use Rattle.cell_values.specs.Schemas.{IsValid};
-ghost use Rattle.array_rows.specs.Boxes.{within};
-ghost use Rattle.array_geom.specs.Geometry.{HasFrame, frame as frame_of, overlaps};
+ghost use Rattle.array_geom.specs.Geometry.{HasFrame, overlaps};
 ghost use Rattle.array_geom.specs.Link.{Is, IsPart, NumbersRise, numbers};
 ghost use Rattle.array_parts.specs.Cores.{HaveCells, cores_of, meant_by_cores};
 ghost use Rattle.array_parts.specs.Placed.{HasPlaces};
@@ -13,26 +12,13 @@ ghost use Rattle.logical_plan.specs.Joins.{join_rows};
 ghost use Rattle.logical_plan.specs.PlanSchema.{join_schema};
 ghost use Rattle.exec_join.specs.Meant.{join_meant};
 
+use crate::arrays::meeting::meet;
 use afl_outside::Gate;
-use area_cells::{array_of_parts, chunk_of_rows, numbers_of, rows_in_area};
+use area_cells::{array_of_parts, found_in, numbers_of};
 use array_geom::{Chunk, ChunkedArray, frame, grid_of, margins_of};
-use cell_values::{Bounds, ChunkAt, List, Margins, Memory, Row, Schema};
+use cell_values::{ChunkAt, List, Margins, Memory, Row, Schema};
 use chunk_workers::{Crew, Work, over_pieces};
-use join_rows::join_of_rows;
 use std::thread::Threads;
-
-/// The joined rows in a box.
-fn joined_in(left: &ChunkedArray, right: &ChunkedArray, area: &Bounds) -> Result<List<Row>, Memory>
-    requires left_cells { HaveCells left.now.schema left.now.margins.items left.now.chunks }
-    requires right_cells { HaveCells right.now.schema right.now.margins.items right.now.chunks }
-    requires left_rise { NumbersRise (numbers left.now.chunks) }
-    requires right_rise { NumbersRise (numbers right.now.chunks) }
-    ensures { IfOk result (λ rows. rows ≡ within area.now (join_rows (cores_of left.now) (cores_of right.now))) }
-{
-    let from_left = rows_in_area(&left.schema, &left.margins, left.chunks.as_slice(), area)?;
-    let from_right = rows_in_area(&right.schema, &right.margins, right.chunks.as_slice(), area)?;
-    join_of_rows(from_left, from_right)
-}
 
 /// The join in a chunk's frame.
 fn join_part(
@@ -52,8 +38,10 @@ fn join_part(
     ensures part { IfOk result (IsPart schema.now.dimensions margins.now.items (join_rows (cores_of left.now) (cores_of right.now))) }
 {
     let area = frame(schema, margins, number);
-    let rows = joined_in(left, right, &area)?;
-    let made = chunk_of_rows(schema, margins, number, rows)?;
+    let grid = grid_of(schema, margins, number);
+    let from_left = found_in(&left.schema, &left.margins, left.chunks.as_slice(), &area, &grid)?;
+    let from_right = found_in(&right.schema, &right.margins, right.chunks.as_slice(), &area, &grid)?;
+    let made = meet(number, &grid, from_left, from_right)?;
     Ok(made)
 }
 
