@@ -1,2 +1,3 @@
 pub mod Overlay
 pub mod Records
+pub mod ToldCalls
