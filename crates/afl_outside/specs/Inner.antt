@@ -1,3 +1,3 @@
+pub mod CallHistory
 pub mod Overlay
 pub mod Records
-pub mod ToldCalls

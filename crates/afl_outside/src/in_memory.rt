@@ -1,8 +1,10 @@
 //! Sources, sinks, disks and shelves in memory.
 
+mod call_history;
 mod device_call;
 mod disk_record;
 mod files;
+mod ghost_record;
 mod images;
 mod mem_disk;
 mod mem_file;
@@ -14,9 +16,7 @@ mod pieces;
 mod sure_disk;
 mod sure_sink;
 mod sure_source;
-mod told_calls;
 mod turns;
-mod unkept_record;
 
 pub use device_call::DeviceCall;
 pub use mem_disk::MemDisk;

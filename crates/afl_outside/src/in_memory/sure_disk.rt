@@ -6,16 +6,16 @@ ghost use Rattle.afl_outside.specs.Lemmas.ImageLaws.{now_counts, only_images_now
 ghost use Rattle.afl_outside.specs.Inner.Records.{unwritten_disk, content_of, sure_disk_moment, SureCalls};
 
 use crate::in_memory::device_call::DeviceCall;
-use crate::in_memory::unkept_record::UnkeptRecord;
+use crate::in_memory::ghost_record::GhostRecord;
 use crate::{Disk, Failed};
 use cell_values::{Bytes, Memory};
 use std::marker::Model;
 
-/// A disk in memory that fails only where no memory is found; its reads and syncs never fail. The images that a stop might
-/// have left are told by its writes and syncs, of which only contracts know: it keeps its bytes alone.
+/// A disk in memory that fails only where no memory is found; its reads and syncs never fail. Contracts see its writes and
+/// syncs, and so the images that a stop might have left; at run time it keeps its bytes alone.
 #[derive(Drop)]
 pub struct SureDisk {
-    kept: UnkeptRecord,
+    kept: GhostRecord,
     wants: u64,
 }
 
@@ -33,7 +33,7 @@ impl SureDisk {
         ensures { result ≡ unwritten_disk content }
     {
         SureDisk {
-            kept: UnkeptRecord::new(content),
+            kept: GhostRecord::new(content),
             wants: 0,
         }
     }

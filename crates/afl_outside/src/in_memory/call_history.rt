@@ -1,4 +1,4 @@
-//! The calls of a disk, which only contracts read.
+//! The calls of a disk, for contracts alone.
 ghost use Rattle.std.specs.Prelude.{◌≡◌, ◌++◌, ◌∷◌, []};
 
 use crate::in_memory::device_call::DeviceCall;
@@ -6,7 +6,7 @@ use std::marker::Model;
 use std::mem::replace;
 use std::snapshot::Snapshot;
 
-/// The calls up to a call. What came before it is told to contracts alone, and takes no memory.
+/// A call and those before it. Of these there is a snapshot, which only contracts read: it takes no memory.
 pub(crate) enum Calls {
     Nothing,
     After {
@@ -24,27 +24,27 @@ impl Drop for Calls {
     }
 }
 
-/// Calls in order, of which no memory is kept.
+/// Calls in order, for contracts alone: at run time it is empty.
 #[derive(Drop)]
-pub(crate) struct ToldCalls {
+pub(crate) struct CallHistory {
     calls: Snapshot<Calls>,
 }
 
-impl Model for ToldCalls {
+impl Model for CallHistory {
     ghost use Rattle.std.specs.Prelude.{List};
     ghost use Rattle.afl_outside.specs.declared.in_memory.device_call.DeviceCall.{DeviceCall};
-    ghost use Rattle.afl_outside.specs.Inner.ToldCalls.{calls_in};
+    ghost use Rattle.afl_outside.specs.Inner.CallHistory.{calls_in};
 
     ghost Value = { List DeviceCall };
 
     ghost view = { λ t. calls_in t.calls.value };
 }
 
-impl ToldCalls {
-    pub(crate) fn new() -> ToldCalls
+impl CallHistory {
+    pub(crate) fn new() -> CallHistory
         ensures { result ≡ [] }
     {
-        ToldCalls {
+        CallHistory {
             calls: Snapshot::of(&Calls::Nothing),
         }
     }

@@ -1,21 +1,21 @@
-//! The bytes of a disk in memory, and the calls that made them, of which no memory is kept.
+//! The bytes of a disk in memory, and, for contracts alone, the calls that made them.
 ghost use Rattle.std.specs.Prelude.{◌≡◌, OnOk, OnErr, true};
 ghost use Rattle.afl_outside.specs.Disk.{ReadsAt};
 ghost use Rattle.afl_outside.specs.Inner.Records.{fresh, with_call, content_of};
 
 use crate::in_memory::device_call::DeviceCall;
 use crate::in_memory::overlay::Overlay;
-use crate::in_memory::told_calls::ToldCalls;
+use crate::in_memory::call_history::CallHistory;
 use cell_values::{Bytes, Memory};
 use std::marker::Model;
 
 #[derive(Drop)]
-pub(crate) struct UnkeptRecord {
+pub(crate) struct GhostRecord {
     bytes: Overlay,
-    calls: ToldCalls,
+    calls: CallHistory,
 }
 
-impl Model for UnkeptRecord {
+impl Model for GhostRecord {
     ghost use Rattle.std.specs.Prelude.{◌≡◌};
     ghost use Rattle.afl_outside.specs.Images.{content_after};
     ghost use Rattle.afl_outside.specs.Inner.Records.{Recorded};
@@ -27,13 +27,13 @@ impl Model for UnkeptRecord {
     ghost invariant = { λ r. r.bytes.content ≡ content_after r.bytes.first r.calls };
 }
 
-impl UnkeptRecord {
-    pub(crate) fn new(first: Bytes) -> UnkeptRecord
+impl GhostRecord {
+    pub(crate) fn new(first: Bytes) -> GhostRecord
         ensures { result ≡ fresh first }
     {
-        UnkeptRecord {
+        GhostRecord {
             bytes: Overlay::new(first),
-            calls: ToldCalls::new(),
+            calls: CallHistory::new(),
         }
     }
 

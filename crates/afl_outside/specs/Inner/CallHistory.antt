@@ -1,7 +1,7 @@
--- The calls of a disk, as they are told to contracts alone.
+-- The calls of a disk, for contracts alone.
 use Rattle.std.specs.Prelude.{List, [], ◌∷◌, ◌++◌}
 use Rattle.afl_outside.specs.declared.in_memory.device_call.DeviceCall.{DeviceCall}
-use Rattle.afl_outside.specs.declared.in_memory.told_calls.Calls.{Calls, Nothing, After'}
+use Rattle.afl_outside.specs.declared.in_memory.call_history.Calls.{Calls, Nothing, After'}
 
 -- in order
 abbrev pub calls_in : Calls → List DeviceCall

@@ -4,7 +4,7 @@ use Rattle.afl_outside.specs.Images.{content_after}
 use Rattle.afl_outside.specs.Inner.Overlay.{Overlaid}
 use Rattle.afl_outside.specs.Lemmas.ImageLaws.{content_after_push}
 use Rattle.afl_outside.specs.declared.in_memory.device_call.DeviceCall.TheVariants.{Write}
-use Rattle.afl_outside.proofs.in_memory.unkept_record.UnkeptRecord.write.Goals as goal
+use Rattle.afl_outside.proofs.in_memory.ghost_record.GhostRecord.write.Goals as goal
 
 pub invariant_of-self-2 : goal.invariant_of-self-2
 invariant_of-self-2 c =
