@@ -64,7 +64,8 @@ fn chunk_at(
     }
 }
 
-/// The chunk with this number that all of these bytes spell, or how many of them are left at the first wrong item.
+/// The chunk with this number that all of these bytes spell, or how many of them are left at the
+/// first wrong item.
 pub fn payload_chunk(
     alloc: Global,
     schema: &Schema,
@@ -121,8 +122,8 @@ fn stored_runs(
     payload(alloc, &places, schema.attributes.as_slice(), bytes)
 }
 
-/// The chunk with this number that these bytes spell, run by run: no run is expanded. What is answered is what `decode` answers: the
-/// chunk whose cells these runs are, or the same offset.
+/// The chunk with this number that these bytes spell, run by run: no run is expanded. What is
+/// answered is what `decode` answers: the chunk whose cells these runs are, or the same offset.
 pub fn decode_runs(
     alloc: Global,
     schema: &Schema,
