@@ -1,10 +1,10 @@
 //! A log and its entries. Nothing here knows of threads.
 ghost use Rattle.std.specs.Prelude.{◌≡◌, [], ◌∷◌, ◌++◌, OnOk, OnErr};
-ghost use Rattle.turn_lock.specs.Entries.{entry};
+ghost use Rattle.test_commits.specs.Entries.{entry};
 
-use crate::turns::History;
 use cell_values::{List, Memory};
 use std::alloc::Global;
+use turn_lock::History;
 
 /// What was appended, and the number of the seat that appended it.
 #[derive(Clone, Copy)]
@@ -21,7 +21,7 @@ pub struct Log {
 }
 
 impl History for Log {
-    ghost use Rattle.turn_lock.specs.Entries.{owner_of};
+    ghost use Rattle.test_commits.specs.Entries.{owner_of};
 
     type Origin = u64;
 

@@ -1,5 +1,5 @@
 use Rattle.page_file.proofs.Puts.{put_writes, put_sees}
-use Rattle.page_file.proofs.sealing.puts_are_writes.Goals as goal
+use Rattle.page_file.proofs.page_writes.puts_are_writes.Goals as goal
 
 pub returns : goal.returns
 returns g c = λ page at n old new low high each puts.

@@ -3,5 +3,5 @@
 mod appending;
 mod log;
 
-pub use appending::append;
-pub use log::{Entry, Log};
+pub(crate) use appending::append;
+pub(crate) use log::{Entry, Log};

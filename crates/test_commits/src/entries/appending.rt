@@ -2,12 +2,12 @@
 ghost use Rattle.std.specs.Prelude.{◌≡◌, OnOk, OnErr};
 ghost use Rattle.turn_lock.specs.Owners.{ExtendsByOthers};
 ghost use Rattle.turn_lock.specs.Seats.{seat_number, seen_by, IsSeatOf, IsIdle};
-ghost use Rattle.turn_lock.specs.Entries.{owner_of, Appends};
+ghost use Rattle.test_commits.specs.Entries.{owner_of, Appends};
 
 use crate::entries::log::Log;
-use crate::turns::{TurnLock, TurnSeat};
 use cell_values::Memory;
 use std::sync::Wait;
+use turn_lock::{TurnLock, TurnSeat};
 
 /// Appends an entry of this seat, behind all that the log has when the seat's turn comes. Where no memory is left
 /// the log stays as it is, and the seat has seen all of it.

@@ -1,7 +1,7 @@
 -- The entries of a log, and what a seat appends.
 use Rattle.std.specs.Prelude.{◌≡◌, ℕ, true, List, [], ◌∷◌, ◌++◌, Option, Some}
 use Rattle.turn_lock.specs.Owners.{none_of}
-use Rattle.turn_lock.specs.declared.entries.log.Entry.{Entry}
+use Rattle.test_commits.specs.declared.entries.log.Entry.{Entry}
 
 -- an entry is owned by the seat that appended it
 abbrev pub owner_of : Entry → Option ℕ
