@@ -9,5 +9,7 @@ mod Samples
 pub mod SchemaLaws
 mod Worked
 mod WorkedGroups
+mod WorkedOrders
 mod WorkedRows
+mod WorkedShapes
 mod WorkedTyping

@@ -11,9 +11,15 @@ pub mod Joins
 pub mod Laws
 pub mod Leaves
 pub mod Lemmas
+pub mod Made
 pub mod Meaning
+pub mod Ordered
+pub mod Places
 pub mod PlanSchema
 pub mod Query
 pub mod Reads
 pub mod Redimension
+pub mod ShapeMeant
+pub mod ShapeSchemas
+pub mod Shapes
 pub mod Typing

@@ -2,6 +2,7 @@
 ghost use Rattle.std.specs.Prelude.{◌≡◌, IfOk, Ok};
 ghost use Rattle.logical_plan.specs.Query.{Query, built, listed, scanned, filtered, applied, projected, between, subarray};
 ghost use Rattle.logical_plan.specs.Query.{sliced, joined, crossed, redimensioned, regridded, windowed, aggregated};
+ghost use Rattle.logical_plan.specs.Query.{sorted, ranked, cumulated, transposed, reversed, unpacked, xgridded, merged, concatenated};
 
 use crate::{Aggregate, Applied, Fixed, Leaf, Pair, Plan, PlanNode, Reach};
 use cell_values::{Bounds, Copies, List, Memory, Row, Schema};
@@ -216,6 +217,123 @@ fn aggregate_of(
     }
 }
 
+fn sort_of(
+    source: Result<Box<Plan>, Memory>,
+    keys: &List<u32>,
+    schema: &Schema,
+) -> Result<Plan, Memory>
+    ensures { (q : Query) → IfOk source (λ b. b.value ≡ q) → IfOk result (λ p. p ≡ sorted q keys.now schema.now) }
+{
+    match both(source, both_copies(keys, schema)) {
+        Ok((source, (keys, schema))) => Ok(Plan {
+            node: PlanNode::Sort(source, keys, schema),
+        }),
+        Err(Memory) => Err(Memory),
+    }
+}
+
+fn rank_of(
+    source: Result<Box<Plan>, Memory>,
+    attribute: u32,
+    dimensions: &List<u32>,
+) -> Result<Plan, Memory>
+    ensures { (q : Query) → IfOk source (λ b. b.value ≡ q) → IfOk result (λ p. p ≡ ranked q attribute dimensions.now) }
+{
+    match both(source, dimensions.copy()) {
+        Ok((source, dimensions)) => Ok(Plan {
+            node: PlanNode::Rank(source, attribute, dimensions),
+        }),
+        Err(Memory) => Err(Memory),
+    }
+}
+
+fn cumulate_of(
+    source: Result<Box<Plan>, Memory>,
+    aggregates: &List<Aggregate>,
+    dimension: u32,
+) -> Result<Plan, Memory>
+    ensures { (q : Query) → IfOk source (λ b. b.value ≡ q) → IfOk result (λ p. p ≡ cumulated q aggregates.now dimension) }
+{
+    match both(source, aggregates.copy()) {
+        Ok((source, aggregates)) => Ok(Plan {
+            node: PlanNode::Cumulate(source, aggregates, dimension),
+        }),
+        Err(Memory) => Err(Memory),
+    }
+}
+
+fn transpose_of(source: Result<Box<Plan>, Memory>) -> Result<Plan, Memory>
+    ensures { (q : Query) → IfOk source (λ b. b.value ≡ q) → IfOk result (λ p. p ≡ transposed q) }
+{
+    match source {
+        Ok(source) => Ok(Plan {
+            node: PlanNode::Transpose(source),
+        }),
+        Err(Memory) => Err(Memory),
+    }
+}
+
+fn reverse_of(source: Result<Box<Plan>, Memory>) -> Result<Plan, Memory>
+    ensures { (q : Query) → IfOk source (λ b. b.value ≡ q) → IfOk result (λ p. p ≡ reversed q) }
+{
+    match source {
+        Ok(source) => Ok(Plan {
+            node: PlanNode::Reverse(source),
+        }),
+        Err(Memory) => Err(Memory),
+    }
+}
+
+fn unpack_of(source: Result<Box<Plan>, Memory>, schema: &Schema) -> Result<Plan, Memory>
+    ensures { (q : Query) → IfOk source (λ b. b.value ≡ q) → IfOk result (λ p. p ≡ unpacked q schema.now) }
+{
+    match both(source, schema.copy()) {
+        Ok((source, schema)) => Ok(Plan {
+            node: PlanNode::Unpack(source, schema),
+        }),
+        Err(Memory) => Err(Memory),
+    }
+}
+
+fn xgrid_of(source: Result<Box<Plan>, Memory>, sizes: &List<u64>) -> Result<Plan, Memory>
+    ensures { (q : Query) → IfOk source (λ b. b.value ≡ q) → IfOk result (λ p. p ≡ xgridded q sizes.now) }
+{
+    match both(source, sizes.copy()) {
+        Ok((source, sizes)) => Ok(Plan {
+            node: PlanNode::Xgrid(source, sizes),
+        }),
+        Err(Memory) => Err(Memory),
+    }
+}
+
+fn merge_of(
+    left: Result<Box<Plan>, Memory>,
+    right: Result<Box<Plan>, Memory>,
+) -> Result<Plan, Memory>
+    ensures { (l r : Query) → IfOk left (λ b. b.value ≡ l) → IfOk right (λ b. b.value ≡ r) → IfOk result (λ p. p ≡ merged l r) }
+{
+    match both(left, right) {
+        Ok((left, right)) => Ok(Plan {
+            node: PlanNode::Merge(left, right),
+        }),
+        Err(Memory) => Err(Memory),
+    }
+}
+
+fn concat_of(
+    left: Result<Box<Plan>, Memory>,
+    right: Result<Box<Plan>, Memory>,
+) -> Result<Plan, Memory>
+    ensures { (l r : Query) → IfOk left (λ b. b.value ≡ l) → IfOk right (λ b. b.value ≡ r) → IfOk result (λ p. p ≡ concatenated l r) }
+{
+    match both(left, right) {
+        Ok((left, right)) => Ok(Plan {
+            node: PlanNode::Concat(left, right),
+        }),
+        Err(Memory) => Err(Memory),
+    }
+}
+
 #[cycle(copy_plan)]
 fn copy_source(source: &Box<Plan>) -> Result<Box<Plan>, Memory>
     ensures { IfOk result (λ copy. copy.value ≡ source.now.value) }
@@ -255,6 +373,19 @@ fn copy_plan(plan: &Plan) -> Result<Plan, Memory>
         PlanNode::Aggregate(source, aggregates, dimensions) => {
             aggregate_of(copy_source(source), aggregates, dimensions)
         }
+        PlanNode::Sort(source, keys, schema) => sort_of(copy_source(source), keys, schema),
+        PlanNode::Rank(source, attribute, dimensions) => {
+            rank_of(copy_source(source), *attribute, dimensions)
+        }
+        PlanNode::Cumulate(source, aggregates, dimension) => {
+            cumulate_of(copy_source(source), aggregates, *dimension)
+        }
+        PlanNode::Transpose(source) => transpose_of(copy_source(source)),
+        PlanNode::Reverse(source) => reverse_of(copy_source(source)),
+        PlanNode::Unpack(source, schema) => unpack_of(copy_source(source), schema),
+        PlanNode::Xgrid(source, sizes) => xgrid_of(copy_source(source), sizes),
+        PlanNode::Merge(left, right) => merge_of(copy_source(left), copy_source(right)),
+        PlanNode::Concat(left, right) => concat_of(copy_source(left), copy_source(right)),
     }
 }
 

@@ -21,8 +21,18 @@ fn push_leaves(found: &mut List<Leaf>, plan: &Plan) -> Result<(), Memory>
         | PlanNode::Redimension(source, _, _)
         | PlanNode::Regrid(source, _, _)
         | PlanNode::Window(source, _, _)
-        | PlanNode::Aggregate(source, _, _) => push_leaves(found, source),
-        PlanNode::Join(left, right, _) | PlanNode::CrossJoin(left, right, _, _) => {
+        | PlanNode::Aggregate(source, _, _)
+        | PlanNode::Sort(source, _, _)
+        | PlanNode::Rank(source, _, _)
+        | PlanNode::Cumulate(source, _, _)
+        | PlanNode::Transpose(source)
+        | PlanNode::Reverse(source)
+        | PlanNode::Unpack(source, _)
+        | PlanNode::Xgrid(source, _) => push_leaves(found, source),
+        PlanNode::Join(left, right, _)
+        | PlanNode::CrossJoin(left, right, _, _)
+        | PlanNode::Merge(left, right)
+        | PlanNode::Concat(left, right) => {
             push_leaves(found, left)?;
             push_leaves(found, right)
         }
