@@ -3,7 +3,7 @@ use Rattle.std.proofs.Common.{◌≡◌, ℕ, suc, ◌+◌, ◌≤◌, ℤ, Bool
 use Rattle.std.specs.Prelude.{◌&&◌, ◌==◌, nat_le, IfOk}
 use Rattle.std.specs.Int.{int_max}
 use Rattle.std.specs.Ordering.{int_eq}
-use Rattle.std.specs.List.{AllZip, list_any, list_all}
+use Rattle.std.specs.List.{AllZip, list_all}
 use Rattle.std.proofs.lemmas.Bool.{false≢true, and_parts, eqb-true}
 use Rattle.std.proofs.lemmas.List.{length-map}
 use Rattle.cell_values.specs.declared.datum.Broken.{Broken}
@@ -33,8 +33,8 @@ use Rattle.logical_plan.proofs.SchemaLaws.{meaning_schema, typed_valid}
 use Rattle.plan_needs.specs.declared.stretch.Stretch.{Stretch}
 use Rattle.plan_needs.specs.Needs.{is_scan, needs}
 use Rattle.plan_needs.specs.Sufficient.{HasArrays}
-use Rattle.plan_needs.specs.Sides.{Sides, sides_of, box_of, whole, of_between, of_subarray, of_slice, of_left, of_right, of_regrid, of_aggregate, of_window, named_sides, are_near, of_windows}
-use Rattle.plan_needs.specs.Stretches.{stretch, all_of, nothing, is_empty, lifted, blocks, grown}
+use Rattle.plan_needs.specs.Sides.{Sides, sides_of, box_of, whole, has_empty, unless_nothing, of_between, of_subarray, of_slice, of_left, of_right, of_regrid, of_aggregate, of_window, named_sides, are_near, of_windows}
+use Rattle.plan_needs.specs.Stretches.{stretch, all_of, lifted, blocks, grown}
 use Rattle.plan_needs.specs.Sufficient.{NeedsAreSufficient}
 use Rattle.plan_needs.specs.Wanted.{HaveAlike, AreAlikeAt, AreAlikeFor}
 use Rattle.plan_needs.proofs.AlikeBlocks.{alike_blocks}
@@ -47,6 +47,7 @@ use Rattle.plan_needs.proofs.AlikeSteps.{alike_changed, alike_between, alike_joi
 use Rattle.plan_needs.proofs.AlikeWindows.{alike_windows}
 use Rattle.plan_needs.proofs.BoxSides.{between_length, box_of_sides}
 use Rattle.plan_needs.proofs.BoxLaws.{box_lengths, length-by_pairs}
+use Rattle.plan_needs.proofs.EmptyBoxes.{length-unless_nothing}
 use Rattle.plan_needs.proofs.Inside.{AreInside}
 use Rattle.plan_needs.proofs.InsidePlans.{insides}
 use Rattle.plan_needs.proofs.LeafParts.{left_arrays, right_arrays}
@@ -239,7 +240,8 @@ by_reach a b source reach gs sides t len la lb e ih true f h =
 by_reach a b source reach gs sides t len la lb e ih false f h =
     let dims : List Dimension = (schema_of source).dimensions in
     let long : length (of_windows dims reach sides) ≡ length dims =
-    length-by_pairs (λ (g : Stretch → Stretch) (s : Stretch). g s) (by_pairs grown dims reach) sides (e ∙ sym (length-by_pairs grown dims reach len)) ∙ length-by_pairs grown dims reach len in
+    length-unless_nothing (has_empty sides) (by_pairs (λ (g : Stretch → Stretch) (s : Stretch). g s) (by_pairs grown dims reach) sides)
+    ∙ length-by_pairs (λ (g : Stretch → Stretch) (s : Stretch). g s) (by_pairs grown dims reach) sides (e ∙ sym (length-by_pairs grown dims reach len)) ∙ length-by_pairs grown dims reach len in
     alike_windows dims reach gs sides (near_slice (schema_of source) dims refl (typed_valid source t)) len (meaning a source).rows (meaning b source).rows (insides a source t la) (insides b source t lb) (ih (of_windows dims reach sides) long h)
 
 by_groups : (a b : Database) (source : Query) (places : List ℕ) (gs : List Aggregate) (sides : Sides) → IsTyped source → HasArrays a source → HasArrays b source
@@ -248,17 +250,21 @@ by_groups : (a b : Database) (source : Query) (places : List ℕ) (gs : List Agg
     → if_whole (within (box_of sides)) (if_whole (aggregate_rows places gs) (meaning a source).rows) ≡ if_whole (within (box_of sides)) (if_whole (aggregate_rows places gs) (meaning b source).rows)
 by_groups a b source (p ∷ places) gs sides t la lb ih h =
     let dims : List Dimension = (schema_of source).dimensions in
-    alike_named dims p places gs sides (meaning a source).rows (meaning b source).rows (insides a source t la) (insides b source t lb) (ih (named_sides (p ∷ places) sides 0 dims) (length-named (p ∷ places) sides 0 dims) h)
-by_groups a b source [] gs sides t la lb ih h = by_test (list_any is_empty sides) refl h
+    alike_named dims p places gs sides (meaning a source).rows (meaning b source).rows (insides a source t la) (insides b source t lb) (ih (unless_nothing (has_empty sides) (named_sides (p ∷ places) sides 0 dims))
+    (length-unless_nothing (has_empty sides) (named_sides (p ∷ places) sides 0 dims) ∙ length-named (p ∷ places) sides 0 dims) h)
+by_groups a b source [] gs sides t la lb ih h = by_test (has_empty sides) refl h
   where
-    by_test : (b' : Bool) → list_any is_empty sides ≡ b' → AreAlikeFor a b source (needs source (cond b' (map (λ d. nothing) (schema_of source).dimensions) (whole (schema_of source).dimensions)))
+    dims : List Dimension
+    dims = (schema_of source).dimensions
+
+    by_test : (none : Bool) → has_empty sides ≡ none → AreAlikeFor a b source (needs source (unless_nothing none (whole (schema_of source).dimensions)))
         → if_whole (within (box_of sides)) (if_whole (aggregate_rows [] gs) (meaning a source).rows) ≡ if_whole (within (box_of sides)) (if_whole (aggregate_rows [] gs) (meaning b source).rows)
     by_test true e f =
-        alike_empty gs sides (box_of (map (λ (d : Dimension). nothing) (schema_of source).dimensions)) e (meaning a source).rows (meaning b source).rows
-        (ih (map (λ (d : Dimension). nothing) (schema_of source).dimensions) (length-map (schema_of source).dimensions (λ d. nothing)) f)
+        alike_empty gs sides (box_of (unless_nothing true (whole dims))) e (meaning a source).rows (meaning b source).rows
+        (ih (unless_nothing true (whole dims)) (length-unless_nothing true (whole dims) ∙ length-map dims all_of) f)
     by_test false e f =
-        alike_all (schema_of source).dimensions gs (box_of sides) (meaning a source).rows (meaning b source).rows
-        (same_source (schema_of source).dimensions (meaning a source).rows (meaning b source).rows (insides a source t la) (insides b source t lb) (ih (whole (schema_of source).dimensions) (length-map (schema_of source).dimensions all_of) f))
+        alike_all dims gs (box_of sides) (meaning a source).rows (meaning b source).rows
+        (same_source dims (meaning a source).rows (meaning b source).rows (insides a source t la) (insides b source t lb) (ih (whole dims) (length-map dims all_of) f))
 
 -- ---- all operators
 
@@ -326,7 +332,9 @@ alike a b (regridded source sizes gs) t la lb sides s h =
     let len : length sizes ≡ length dims = eqb-true (length sizes) (length dims) blocked.0 in
     let some : length (by_pairs in_blocks dims sizes) ≡ length dims = length-by_pairs in_blocks dims sizes len in
     let many : length (by_pairs blocks dims sizes) ≡ length dims = length-by_pairs blocks dims sizes len in
-    let long : length (of_regrid dims sizes sides) ≡ length dims = length-by_pairs (λ (f : Stretch → Stretch) (x : Stretch). f x) (by_pairs blocks dims sizes) sides (s ∙ some ∙ sym many) ∙ many in
+    let long : length (of_regrid dims sizes sides) ≡ length dims =
+    length-unless_nothing (has_empty sides) (by_pairs (λ (f : Stretch → Stretch) (x : Stretch). f x) (by_pairs blocks dims sizes) sides)
+    ∙ length-by_pairs (λ (f : Stretch → Stretch) (x : Stretch). f x) (by_pairs blocks dims sizes) sides (s ∙ some ∙ sym many) ∙ many in
     alike_blocks (schema_of source) sizes gs sides (typed_valid source t.0) len blocked.1 (meaning a source) (meaning b source) (meaning_schema a source) (meaning_schema b source)
     (insides a source t.0 la) (insides b source t.0 lb) (alike a b source t.0 la lb (of_regrid dims sizes sides) long h)
 alike a b (windowed source reach gs) t la lb sides s h =

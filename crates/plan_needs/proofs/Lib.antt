@@ -9,6 +9,7 @@ pub mod AlikeSteps
 pub mod AlikeWindows
 pub mod BoxLaws
 pub mod BoxSides
+pub mod EmptyBoxes
 pub mod FreeNames
 pub mod Inside
 pub mod InsidePlans

@@ -5,7 +5,7 @@ use Rattle.logical_plan.specs.Query.{Query, query_size}
 use Rattle.logical_plan.specs.Typing.{IsTyped}
 use Rattle.logical_plan.specs.Inner.QueryView.{query_of}
 use Rattle.plan_needs.specs.Needs.{is_scan, needs}
-use Rattle.plan_needs.specs.Sides.{of_aggregate, of_between, of_left, of_regrid, of_right, of_slice, of_subarray, of_window, whole}
+use Rattle.plan_needs.specs.Sides.{of_aggregate, of_left, of_regrid, of_right, of_slice, of_subarray, of_window, whole}
 use Rattle.plan_needs.proofs.needs.+push_needs.Goals as goal
 
 pub push_needs-push_source-requires : goal.push_needs-push_source-requires
