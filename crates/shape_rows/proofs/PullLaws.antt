@@ -76,6 +76,22 @@ all_where P area (row ∷ rows) a = keep (is_inside area row.at.items) (all_wher
     keep true r = (a.0, r)
     keep false r = r
 
+all_inside : (area : Bounds) (rows : List Row) → AllByRecursion (λ row. is_inside area row.at.items ≡ true) (within area rows)
+all_inside area [] = tt
+all_inside area (row ∷ rows) = keep (is_inside area row.at.items) refl (all_inside area rows)
+  where
+    keep : (t : Bool) → is_inside area row.at.items ≡ t → AllByRecursion (λ r. is_inside area r.at.items ≡ true) (within area rows) → AllByRecursion (λ r. is_inside area r.at.items ≡ true) (cond t (row ∷ within area rows) (within area rows))
+    keep true e r = (e, r)
+    keep false e r = r
+
+-- what rising rows have within the bounds of their schema is an array
+pub part_is_array : (target : Schema) (rows : List Row) → IsValid target → IsRising rows → AllByRecursion (λ row. IsCellOf target.attributes row.cell) rows → AreRowsOf target (within (bounds_of target.dimensions) rows)
+part_is_array target rows valid rising kinds = record {
+  valid = valid;
+  are_rows = record { rising = IsRising-rows_where (is_inside (bounds_of target.dimensions)) rows rising; in_bounds = all_inside (bounds_of target.dimensions) rows };
+  kinds = all_where (λ row. IsCellOf target.attributes row.cell) (bounds_of target.dimensions) rows kinds;
+}
+
 -- no cell stands where no row is
 pub none_outside : (area : Bounds) (rows : List Row) (c : Coordinate) → AllByRecursion (λ row. is_inside area row.at.items ≡ true) rows → is_inside area c ≡ false → cell_at rows c ≡ None
 none_outside area rows c a e = cases (cell_at rows c) refl

@@ -17,15 +17,16 @@ use Rattle.cell_values.specs.declared.schema.Dimension.{Dimension}
 use Rattle.cell_values.specs.declared.schema.Schema.{Schema}
 use Rattle.cell_values.specs.Cells.{AreOfKinds, IsCellOf}
 use Rattle.cell_values.specs.Table.{fits_int64}
-use Rattle.array_rows.specs.Boxes.{bounds_of, is_inside}
+use Rattle.array_rows.specs.Boxes.{bounds_of, is_inside, within}
 use Rattle.array_rows.specs.Rows.{Coordinate, row_major, IsBefore, IsRising}
 use Rattle.array_geom.specs.Inner.Ranges.{AreNear}
 use Rattle.array_geom.proofs.NearLemmas.{valid_placed}
 use Rattle.array_geom.proofs.TestLaws.{and_both, and_parts, le_test, le_from_test}
 use Rattle.logical_plan.specs.Faults.{if_whole}
-use Rattle.shape_rows.specs.Laws.{UnpacksAreArrays}
+use Rattle.shape_rows.specs.Laws.{UnpackedPartsAreArrays, UnpacksAreArrays}
 use Rattle.logical_plan.specs.ShapeSchemas.{counting, numbers_of, unpack_schema}
 use Rattle.array_rows.specs.Arrays.{AreRowsOf}
+use Rattle.shape_rows.proofs.PullLaws.{part_is_array}
 use Rattle.logical_plan.specs.Shapes.{after_cell, unpacked_from, unpack_rows}
 
 -- what an operator of what is whole keeps
@@ -113,3 +114,11 @@ unpacks_are_arrays name s rows valid are few = cases (unpack_rows rows) (numbere
     cases (Ok made) n k =
         let m = n.many in
         record { valid = valid; are_rows = record { rising = rises 0 made n.each; in_bounds = all_inside name 0 made n.each (omega (arith, m, few)) }; kinds = k }
+
+pub unpacked_parts_are_arrays : UnpackedPartsAreArrays
+unpacked_parts_are_arrays name s rows valid are = cases (unpack_rows rows) (numbered 0 rows) (all_cells s 0 rows (valid_placed s are.valid).near are.are_rows.in_bounds are.kinds)
+  where
+    cases : (r : Result (List Row) Broken) → IfOk r (Numbered 0 (length rows)) → IfOk r (AllByRecursion (λ row. IsCellOf (map numbers_of s.dimensions ++ s.attributes) row.cell))
+        → IfOk (if_whole (within (bounds_of (unpack_schema name s).dimensions)) r) (AreRowsOf (unpack_schema name s))
+    cases (Err broken) n k = tt
+    cases (Ok made) n k = part_is_array (unpack_schema name s) made valid (rises 0 made n.each) k

@@ -8,8 +8,9 @@ use Rattle.cell_values.specs.declared.schema.Attribute.{Attribute}
 use Rattle.cell_values.specs.declared.schema.Schema.{Schema}
 use Rattle.cell_values.specs.Schemas.{IsValid}
 use Rattle.array_rows.specs.Arrays.{AreRows, AreRowsOf}
-use Rattle.array_rows.specs.Boxes.{by_pairs, bounds_of}
+use Rattle.array_rows.specs.Boxes.{by_pairs, bounds_of, within}
 use Rattle.array_rows.specs.Rows.{Coordinate, cell_at}
+use Rattle.logical_plan.specs.Faults.{if_whole}
 use Rattle.shape_rows.specs.Pulls.{IsPulled}
 use Rattle.logical_plan.specs.Shapes.{backwards, blocks_back, mirrored, transpose_rows, reverse_rows, xgrid_rows, merge_rows, concat_rows, step_between, unpack_rows}
 use Rattle.logical_plan.specs.ShapeSchemas.{enlarged, length_of, with_high, merge_schema, concat_schema, unpack_schema}
@@ -62,6 +63,11 @@ ConcatsAreArrays = (left right : Schema) (l r : List Row) → IsValid (concat_sc
 abbrev pub UnpacksAreArrays : Type 0
 UnpacksAreArrays = (name : List ℕ) (source : Schema) (rows : List Row) → IsValid (unpack_schema name source) → AreRowsOf source rows → length rows ≤ 2 ^ 62
     → IfOk (unpack_rows rows) (AreRowsOf (unpack_schema name source))
+
+-- of any number of cells those with a number within the bounds are one
+abbrev pub UnpackedPartsAreArrays : Type 0
+UnpackedPartsAreArrays = (name : List ℕ) (source : Schema) (rows : List Row) → IsValid (unpack_schema name source) → AreRowsOf source rows
+    → IfOk (if_whole (within (bounds_of (unpack_schema name source).dimensions)) (unpack_rows rows)) (AreRowsOf (unpack_schema name source))
 
 -- merged arrays have the left's cell, else the right's
 abbrev pub MergeCells : Type 0
