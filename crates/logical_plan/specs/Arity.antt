@@ -1,5 +1,4 @@
 -- Plans by the number of their sources.
-use Rattle.std.specs.Prelude.{List, [], ◌∷◌}
 use Rattle.logical_plan.specs.declared.arity.BinaryNode.{BinaryNode}
 use Rattle.logical_plan.specs.declared.arity.BinaryNode.TheVariants.{Join, CrossJoin, Merge, Concat}
 use Rattle.logical_plan.specs.declared.arity.LeafNode.{LeafNode}

@@ -1,10 +1,16 @@
 //! Plans by the number of their sources.
-ghost use Rattle.std.specs.Prelude.{◌≡◌};
-ghost use Rattle.logical_plan.specs.Arity.{shape_query};
+ghost use Rattle.std.specs.Prelude.{◌≡◌, IfOk};
+ghost use Rattle.logical_plan.specs.Arity.{binary_query, shape_query, unary_query};
 
+use crate::copies::{
+    aggregate_of, apply_of, between_of, concat_of, cross_join_of, cumulate_of, filter_of, join_of,
+    merge_of, project_of, rank_of, redimension_of, regrid_of, reverse_of, slice_of, sort_of,
+    subarray_of, transpose_of, unpack_of, window_of, xgrid_of,
+};
 use crate::{Aggregate, Applied, Fixed, Leaf, Pair, Plan, PlanNode, Reach};
-use cell_values::{Bounds, List, Row, Schema};
+use cell_values::{Bounds, List, Memory, Row, Schema};
 use expr_nulls::TypedExpr;
+use std::alloc::Global;
 
 /// What has no source.
 #[derive(Clone, Copy)]
@@ -108,6 +114,65 @@ impl Plan {
             PlanNode::Xgrid(source, sizes) => PlanShape::Unary(source, UnaryNode::Xgrid(sizes)),
             PlanNode::Merge(left, right) => PlanShape::Binary(left, right, BinaryNode::Merge),
             PlanNode::Concat(left, right) => PlanShape::Binary(left, right, BinaryNode::Concat),
+        }
+    }
+}
+
+fn in_box(alloc: Global, plan: Plan) -> Result<Box<Plan>, Memory>
+    ensures { IfOk result (λ b. b.value ≡ plan) }
+{
+    match Box::new(alloc, plan) {
+        Ok(boxed) => Ok(boxed),
+        Err(_) => Err(Memory),
+    }
+}
+
+impl UnaryNode<'_> {
+    /// The operator over another source, with copies of its other parts.
+    pub fn over(self, alloc: Global, source: Plan) -> Result<Plan, Memory>
+        ensures { IfOk result (λ p. p ≡ unary_query self.entry source) }
+    {
+        let source = in_box(alloc, source);
+        match self {
+            UnaryNode::Filter(test) => filter_of(source, test),
+            UnaryNode::Apply(values) => apply_of(source, values),
+            UnaryNode::Project(places) => project_of(source, places),
+            UnaryNode::Between(area) => between_of(source, area),
+            UnaryNode::Subarray(area) => subarray_of(source, area),
+            UnaryNode::Slice(fixed) => slice_of(source, fixed),
+            UnaryNode::Redimension(schema, aggregates) => {
+                redimension_of(source, schema, aggregates)
+            }
+            UnaryNode::Regrid(sizes, aggregates) => regrid_of(source, sizes, aggregates),
+            UnaryNode::Window(reach, aggregates) => window_of(source, reach, aggregates),
+            UnaryNode::Aggregate(aggregates, dimensions) => {
+                aggregate_of(source, aggregates, dimensions)
+            }
+            UnaryNode::Sort(keys, schema) => sort_of(source, keys, schema),
+            UnaryNode::Rank(attribute, dimensions) => rank_of(source, attribute, dimensions),
+            UnaryNode::Cumulate(aggregates, dimension) => {
+                cumulate_of(source, aggregates, dimension)
+            }
+            UnaryNode::Transpose => transpose_of(source),
+            UnaryNode::Reverse => reverse_of(source),
+            UnaryNode::Unpack(schema) => unpack_of(source, schema),
+            UnaryNode::Xgrid(sizes) => xgrid_of(source, sizes),
+        }
+    }
+}
+
+impl BinaryNode<'_> {
+    /// The operator over two other sources, with copies of its other parts.
+    pub fn over(self, alloc: Global, left: Plan, right: Plan) -> Result<Plan, Memory>
+        ensures { IfOk result (λ p. p ≡ binary_query self.entry left right) }
+    {
+        let left = in_box(alloc, left);
+        let right = in_box(alloc, right);
+        match self {
+            BinaryNode::Join(schema) => join_of(left, right, schema),
+            BinaryNode::CrossJoin(pairs, schema) => cross_join_of(left, right, pairs, schema),
+            BinaryNode::Merge => merge_of(left, right),
+            BinaryNode::Concat => concat_of(left, right),
         }
     }
 }
