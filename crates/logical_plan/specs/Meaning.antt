@@ -16,7 +16,7 @@ use Rattle.logical_plan.specs.CellOps.{filter_rows, apply_rows, project_rows, fi
 use Rattle.logical_plan.specs.Faults.{and_then}
 use Rattle.logical_plan.specs.Groups.{regrid_rows, window_rows, aggregate_rows}
 use Rattle.logical_plan.specs.Joins.{join_rows, cross_rows}
-pub use Rattle.logical_plan.specs.Made.{whole, made, made_of_two}
+pub use Rattle.logical_plan.specs.Made.{whole, made, made_numbers, made_of_two}
 use Rattle.logical_plan.specs.Ordered.{sort_rows, rank_rows, cumulate_rows}
 pub use Rattle.logical_plan.specs.Places.{count_from, how_many}
 use Rattle.logical_plan.specs.PlanSchema.{apply_schema, project_schema, subarray_schema, slice_schema, regrid_schema, window_schema, aggregate_schema}
@@ -57,7 +57,7 @@ redimensioned_from schema gs source = record { schema = schema; rows = and_then 
 
 -- the source's cells in the order of their keys; some cell may break the result
 abbrev pub sorted_from : List ℕ → Schema → Meant → Meant
-sorted_from keys schema source = record { schema = schema; rows = and_then (sort_rows keys) source.rows }
+sorted_from keys schema = made_numbers schema (sort_rows keys)
 
 -- ---- plans
 

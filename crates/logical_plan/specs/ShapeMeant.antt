@@ -2,8 +2,7 @@
 use Rattle.std.specs.Prelude.{ℕ, List}
 use Rattle.cell_values.specs.declared.schema.Schema.{Schema}
 use Rattle.array_rows.specs.Arrays.{Meant}
-use Rattle.logical_plan.specs.Faults.{and_then}
-use Rattle.logical_plan.specs.Made.{made, made_of_two}
+use Rattle.logical_plan.specs.Made.{made, made_numbers, made_of_two}
 use Rattle.logical_plan.specs.Shapes.{transpose_rows, reverse_rows, unpack_rows, xgrid_rows, merge_rows, concat_rows, step_between}
 use Rattle.logical_plan.specs.ShapeSchemas.{transpose_schema, xgrid_schema, merge_schema, concat_schema}
 
@@ -15,7 +14,7 @@ reverse_meant = made (λ s. s) (λ s. reverse_rows s.dimensions)
 
 -- the schema is the plan's; some cell may break the result
 abbrev pub unpack_meant : Schema → Meant → Meant
-unpack_meant schema source = record { schema = schema; rows = and_then unpack_rows source.rows }
+unpack_meant schema = made_numbers schema unpack_rows
 
 abbrev pub xgrid_meant : List ℕ → Meant → Meant
 xgrid_meant sizes = made (xgrid_schema sizes) (λ s. xgrid_rows s.dimensions sizes)

@@ -3,6 +3,7 @@ ghost use Rattle.std.specs.Prelude.{◌≡◌, Some, IfOk};
 ghost use Rattle.std.specs.Option.{option_copied};
 ghost use Rattle.logical_plan.specs.Query.{filtered, applied, projected, between, subarray, sliced, joined};
 ghost use Rattle.logical_plan.specs.Query.{crossed, redimensioned, regridded, windowed, aggregated};
+ghost use Rattle.logical_plan.specs.Query.{sorted, ranked, cumulated, unpacked, xgridded};
 ghost use Rattle.plan_rewrite.specs.Inner.Pending.{boxed, pending, shown};
 ghost use Rattle.plan_rewrite.specs.Inner.Settling.{applied_for};
 ghost use Rattle.plan_rewrite.specs.Inner.Trimmed.{met};
@@ -144,6 +145,81 @@ pub(crate) fn aggregate_of(
 {
     match both_copies(aggregates, dimensions) {
         Ok((aggregates, dimensions)) => Plan::aggregate(alloc, source, aggregates, dimensions),
+        Err(Memory) => {
+            let_go(source);
+            Err(Memory)
+        }
+    }
+}
+
+pub(crate) fn sort_of(
+    alloc: Global,
+    source: Plan,
+    keys: &List<u32>,
+    schema: &Schema,
+) -> Result<Plan, Memory>
+    ensures { IfOk result (λ p. p ≡ sorted source keys.now schema.now) }
+{
+    match both_copies(keys, schema) {
+        Ok((keys, schema)) => Plan::sort(alloc, source, keys, schema),
+        Err(Memory) => {
+            let_go(source);
+            Err(Memory)
+        }
+    }
+}
+
+pub(crate) fn rank_of(
+    alloc: Global,
+    source: Plan,
+    attribute: u32,
+    dimensions: &List<u32>,
+) -> Result<Plan, Memory>
+    ensures { IfOk result (λ p. p ≡ ranked source attribute dimensions.now) }
+{
+    match dimensions.copy() {
+        Ok(dimensions) => Plan::rank(alloc, source, attribute, dimensions),
+        Err(Memory) => {
+            let_go(source);
+            Err(Memory)
+        }
+    }
+}
+
+pub(crate) fn cumulate_of(
+    alloc: Global,
+    source: Plan,
+    aggregates: &List<Aggregate>,
+    dimension: u32,
+) -> Result<Plan, Memory>
+    ensures { IfOk result (λ p. p ≡ cumulated source aggregates.now dimension) }
+{
+    match aggregates.copy() {
+        Ok(aggregates) => Plan::cumulate(alloc, source, aggregates, dimension),
+        Err(Memory) => {
+            let_go(source);
+            Err(Memory)
+        }
+    }
+}
+
+pub(crate) fn unpack_of(alloc: Global, source: Plan, schema: &Schema) -> Result<Plan, Memory>
+    ensures { IfOk result (λ p. p ≡ unpacked source schema.now) }
+{
+    match schema.copy() {
+        Ok(schema) => Plan::unpack(alloc, source, schema),
+        Err(Memory) => {
+            let_go(source);
+            Err(Memory)
+        }
+    }
+}
+
+pub(crate) fn xgrid_of(alloc: Global, source: Plan, sizes: &List<u64>) -> Result<Plan, Memory>
+    ensures { IfOk result (λ p. p ≡ xgridded source sizes.now) }
+{
+    match sizes.copy() {
+        Ok(sizes) => Plan::xgrid(alloc, source, sizes),
         Err(Memory) => {
             let_go(source);
             Err(Memory)

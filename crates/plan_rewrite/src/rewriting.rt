@@ -11,8 +11,9 @@ ghost use Rattle.plan_rewrite.specs.Inner.Trimmed.{names_none};
 ghost use Rattle.plan_rewrite.specs.Same.{IsRewritten};
 
 use crate::nodes::{
-    aggregate_of, apply_over, cross_join_of, enclosed, filter_over, join_of, met, redimension_of,
-    regrid_of, slice_of, subarray_of, window_of,
+    aggregate_of, apply_over, cross_join_of, cumulate_of, enclosed, filter_over, join_of, met,
+    rank_of, redimension_of, regrid_of, slice_of, sort_of, subarray_of, unpack_of, window_of,
+    xgrid_of,
 };
 use crate::places::{names_none, picked};
 use crate::shapes::{Shape, shape_of};
@@ -55,6 +56,15 @@ fn over_one(alloc: Global, plan: &Plan, source: Plan) -> Result<Plan, Memory>
         PlanNode::Aggregate(_, aggregates, groups) => {
             aggregate_of(alloc, source, aggregates, groups)
         }
+        PlanNode::Sort(_, keys, schema) => sort_of(alloc, source, keys, schema),
+        PlanNode::Rank(_, attribute, groups) => rank_of(alloc, source, *attribute, groups),
+        PlanNode::Cumulate(_, aggregates, dimension) => {
+            cumulate_of(alloc, source, aggregates, *dimension)
+        }
+        PlanNode::Transpose(_) => Plan::transpose(alloc, source),
+        PlanNode::Reverse(_) => Plan::reverse(alloc, source),
+        PlanNode::Unpack(_, schema) => unpack_of(alloc, source, schema),
+        PlanNode::Xgrid(_, sizes) => xgrid_of(alloc, source, sizes),
         PlanNode::Build(..)
         | PlanNode::Literal(..)
         | PlanNode::Scan(_)
@@ -63,7 +73,9 @@ fn over_one(alloc: Global, plan: &Plan, source: Plan) -> Result<Plan, Memory>
         | PlanNode::Project(..)
         | PlanNode::Between(..)
         | PlanNode::Join(..)
-        | PlanNode::CrossJoin(..) => {
+        | PlanNode::CrossJoin(..)
+        | PlanNode::Merge(..)
+        | PlanNode::Concat(..) => {
             let_go(source);
             plan.copy()
         }
@@ -79,6 +91,8 @@ fn over_two(alloc: Global, plan: &Plan, left: Plan, right: Plan) -> Result<Plan,
         PlanNode::CrossJoin(_, _, pairs, schema) => {
             cross_join_of(alloc, left, right, pairs, schema)
         }
+        PlanNode::Merge(..) => Plan::merge(alloc, left, right),
+        PlanNode::Concat(..) => Plan::concat(alloc, left, right),
         PlanNode::Build(..)
         | PlanNode::Literal(..)
         | PlanNode::Scan(_)
@@ -91,7 +105,14 @@ fn over_two(alloc: Global, plan: &Plan, left: Plan, right: Plan) -> Result<Plan,
         | PlanNode::Redimension(..)
         | PlanNode::Regrid(..)
         | PlanNode::Window(..)
-        | PlanNode::Aggregate(..) => {
+        | PlanNode::Aggregate(..)
+        | PlanNode::Sort(..)
+        | PlanNode::Rank(..)
+        | PlanNode::Cumulate(..)
+        | PlanNode::Transpose(_)
+        | PlanNode::Reverse(_)
+        | PlanNode::Unpack(..)
+        | PlanNode::Xgrid(..) => {
             let_go(left);
             let_go(right);
             plan.copy()
@@ -170,7 +191,16 @@ fn below<'a>(
         | PlanNode::Redimension(..)
         | PlanNode::Regrid(..)
         | PlanNode::Window(..)
-        | PlanNode::Aggregate(..) => Ok((0, None, None)),
+        | PlanNode::Aggregate(..)
+        | PlanNode::Sort(..)
+        | PlanNode::Rank(..)
+        | PlanNode::Cumulate(..)
+        | PlanNode::Transpose(_)
+        | PlanNode::Reverse(_)
+        | PlanNode::Unpack(..)
+        | PlanNode::Xgrid(..)
+        | PlanNode::Merge(..)
+        | PlanNode::Concat(..) => Ok((0, None, None)),
     }
 }
 
@@ -233,7 +263,16 @@ fn over_settled(
         | PlanNode::Redimension(..)
         | PlanNode::Regrid(..)
         | PlanNode::Window(..)
-        | PlanNode::Aggregate(..) => {
+        | PlanNode::Aggregate(..)
+        | PlanNode::Sort(..)
+        | PlanNode::Rank(..)
+        | PlanNode::Cumulate(..)
+        | PlanNode::Transpose(_)
+        | PlanNode::Reverse(_)
+        | PlanNode::Unpack(..)
+        | PlanNode::Xgrid(..)
+        | PlanNode::Merge(..)
+        | PlanNode::Concat(..) => {
             enclose_made(alloc, one_settled(alloc, plan, settled), area, places)
         }
     }

@@ -32,5 +32,14 @@ pub(crate) fn shape_of(plan: &Plan) -> Shape<'_>
         PlanNode::Regrid(source, _, _) => Shape::One(source),
         PlanNode::Window(source, _, _) => Shape::One(source),
         PlanNode::Aggregate(source, _, _) => Shape::One(source),
+        PlanNode::Sort(source, _, _) => Shape::One(source),
+        PlanNode::Rank(source, _, _) => Shape::One(source),
+        PlanNode::Cumulate(source, _, _) => Shape::One(source),
+        PlanNode::Transpose(source) => Shape::One(source),
+        PlanNode::Reverse(source) => Shape::One(source),
+        PlanNode::Unpack(source, _) => Shape::One(source),
+        PlanNode::Xgrid(source, _) => Shape::One(source),
+        PlanNode::Merge(left, right) => Shape::Two(left, right),
+        PlanNode::Concat(left, right) => Shape::Two(left, right),
     }
 }

@@ -48,16 +48,6 @@ impl Cells {
         }
     }
 
-    /// These cells, as they are.
-    pub fn from_list(cells: List<Cell>) -> Cells
-        ensures { result ≡ cells }
-    {
-        Cells {
-            alloc: cells.allocator(),
-            form: Form::Mixed(cells),
-        }
-    }
-
     /// Cells with the values of these rows.
     pub fn from_rows(alloc: Global, rows: Rows) -> Cells
         ensures { result ≡ map Full rows }

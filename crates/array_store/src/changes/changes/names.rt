@@ -26,10 +26,18 @@ fn reads_name(plan: &Plan, name: &Name) -> bool
         | PlanNode::Redimension(source, _, _)
         | PlanNode::Regrid(source, _, _)
         | PlanNode::Window(source, _, _)
-        | PlanNode::Aggregate(source, _, _) => reads_name(source, name),
-        PlanNode::Join(left, right, _) | PlanNode::CrossJoin(left, right, _, _) => {
-            reads_name(left, name) || reads_name(right, name)
-        }
+        | PlanNode::Aggregate(source, _, _)
+        | PlanNode::Sort(source, _, _)
+        | PlanNode::Rank(source, _, _)
+        | PlanNode::Cumulate(source, _, _)
+        | PlanNode::Transpose(source)
+        | PlanNode::Reverse(source)
+        | PlanNode::Unpack(source, _)
+        | PlanNode::Xgrid(source, _) => reads_name(source, name),
+        PlanNode::Join(left, right, _)
+        | PlanNode::CrossJoin(left, right, _, _)
+        | PlanNode::Merge(left, right)
+        | PlanNode::Concat(left, right) => reads_name(left, name) || reads_name(right, name),
     }
 }
 

@@ -27,3 +27,31 @@ returns-in-Window c =
 pub returns-in-Aggregate : goal.returns-in-Aggregate
 returns-in-Aggregate c =
     subst (λ (q : Query). IfOk c.aggregate_of.result (λ p. p ≡ over_one q c.args.source)) (sym (ap query_of c.in-Aggregate.is) ∙ c.plan.view_is) c.aggregate_of.ensures
+
+pub returns-in-Sort : goal.returns-in-Sort
+returns-in-Sort c =
+    subst (λ (q : Query). IfOk c.sort_of.result (λ p. p ≡ over_one q c.args.source)) (sym (ap query_of c.in-Sort.is) ∙ c.plan.view_is) c.sort_of.ensures
+
+pub returns-in-Rank : goal.returns-in-Rank
+returns-in-Rank c =
+    subst (λ (q : Query). IfOk c.rank_of.result (λ p. p ≡ over_one q c.args.source)) (sym (ap query_of c.in-Rank.is) ∙ c.plan.view_is) c.rank_of.ensures
+
+pub returns-in-Cumulate : goal.returns-in-Cumulate
+returns-in-Cumulate c =
+    subst (λ (q : Query). IfOk c.cumulate_of.result (λ p. p ≡ over_one q c.args.source)) (sym (ap query_of c.in-Cumulate.is) ∙ c.plan.view_is) c.cumulate_of.ensures
+
+pub returns-in-Transpose : goal.returns-in-Transpose
+returns-in-Transpose c =
+    subst (λ (q : Query). IfOk c.transpose.result (λ p. p ≡ over_one q c.args.source)) (sym (ap query_of c.in-Transpose.is) ∙ c.plan.view_is) c.transpose.ensures
+
+pub returns-in-Reverse : goal.returns-in-Reverse
+returns-in-Reverse c =
+    subst (λ (q : Query). IfOk c.reverse.result (λ p. p ≡ over_one q c.args.source)) (sym (ap query_of c.in-Reverse.is) ∙ c.plan.view_is) c.reverse.ensures
+
+pub returns-in-Unpack : goal.returns-in-Unpack
+returns-in-Unpack c =
+    subst (λ (q : Query). IfOk c.unpack_of.result (λ p. p ≡ over_one q c.args.source)) (sym (ap query_of c.in-Unpack.is) ∙ c.plan.view_is) c.unpack_of.ensures
+
+pub returns-in-Xgrid : goal.returns-in-Xgrid
+returns-in-Xgrid c =
+    subst (λ (q : Query). IfOk c.xgrid_of.result (λ p. p ≡ over_one q c.args.source)) (sym (ap query_of c.in-Xgrid.is) ∙ c.plan.view_is) c.xgrid_of.ensures

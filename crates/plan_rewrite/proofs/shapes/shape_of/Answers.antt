@@ -2,6 +2,7 @@ use Rattle.std.proofs.Common.{◌∙◌, length, ap, refl, rules, subst, sym}
 use Rattle.logical_plan.specs.PlanSchema.{schema_of}
 use Rattle.logical_plan.specs.Query.{Query, filtered, applied, projected, between, subarray, sliced, joined, crossed}
 use Rattle.logical_plan.specs.Query.{redimensioned, regridded, windowed, aggregated}
+use Rattle.logical_plan.specs.Query.{sorted, ranked, cumulated, transposed, reversed, unpacked, xgridded, merged, concatenated}
 use Rattle.logical_plan.specs.Inner.QueryView.{query_of}
 use Rattle.plan_rewrite.specs.Inner.Shapes.{IsOne, IsTwo}
 use Rattle.plan_rewrite.specs.Inner.Trimmed.{names_none}
@@ -90,4 +91,69 @@ returns-in-CrossJoin c =
     (ap (λ (l : Query). crossed l c.deref-in-CrossJoin-2.result.now c.in-CrossJoin.field-2 c.in-CrossJoin.field-3) c.deref-in-CrossJoin.ensures
     ∙ ap (λ (r : Query). crossed c.in-CrossJoin.left.value r c.in-CrossJoin.field-2 c.in-CrossJoin.field-3) c.deref-in-CrossJoin-2.ensures
     ∙ sym (ap query_of c.in-CrossJoin.is) ∙ c.plan.view_is)
+    (refl, λ area places. refl)
+
+pub returns-in-Sort : goal.returns-in-Sort
+returns-in-Sort c =
+    subst (λ (q : Query). IsOne q c.deref-in-Sort.result.now)
+    (ap (λ (s : Query). sorted s c.in-Sort.field-1 c.in-Sort.field-2) c.deref-in-Sort.ensures
+    ∙ sym (ap query_of c.in-Sort.is) ∙ c.plan.view_is)
+    (refl, λ area places. refl)
+
+pub returns-in-Rank : goal.returns-in-Rank
+returns-in-Rank c =
+    subst (λ (q : Query). IsOne q c.deref-in-Rank.result.now)
+    (ap (λ (s : Query). ranked s c.in-Rank.field-1 c.in-Rank.field-2) c.deref-in-Rank.ensures
+    ∙ sym (ap query_of c.in-Rank.is) ∙ c.plan.view_is)
+    (refl, λ area places. refl)
+
+pub returns-in-Cumulate : goal.returns-in-Cumulate
+returns-in-Cumulate c =
+    subst (λ (q : Query). IsOne q c.deref-in-Cumulate.result.now)
+    (ap (λ (s : Query). cumulated s c.in-Cumulate.field-1 c.in-Cumulate.field-2) c.deref-in-Cumulate.ensures
+    ∙ sym (ap query_of c.in-Cumulate.is) ∙ c.plan.view_is)
+    (refl, λ area places. refl)
+
+pub returns-in-Transpose : goal.returns-in-Transpose
+returns-in-Transpose c =
+    subst (λ (q : Query). IsOne q c.deref-in-Transpose.result.now)
+    (ap (λ (s : Query). transposed s) c.deref-in-Transpose.ensures
+    ∙ sym (ap query_of c.in-Transpose.is) ∙ c.plan.view_is)
+    (refl, λ area places. refl)
+
+pub returns-in-Reverse : goal.returns-in-Reverse
+returns-in-Reverse c =
+    subst (λ (q : Query). IsOne q c.deref-in-Reverse.result.now)
+    (ap (λ (s : Query). reversed s) c.deref-in-Reverse.ensures
+    ∙ sym (ap query_of c.in-Reverse.is) ∙ c.plan.view_is)
+    (refl, λ area places. refl)
+
+pub returns-in-Unpack : goal.returns-in-Unpack
+returns-in-Unpack c =
+    subst (λ (q : Query). IsOne q c.deref-in-Unpack.result.now)
+    (ap (λ (s : Query). unpacked s c.in-Unpack.field-1) c.deref-in-Unpack.ensures
+    ∙ sym (ap query_of c.in-Unpack.is) ∙ c.plan.view_is)
+    (refl, λ area places. refl)
+
+pub returns-in-Xgrid : goal.returns-in-Xgrid
+returns-in-Xgrid c =
+    subst (λ (q : Query). IsOne q c.deref-in-Xgrid.result.now)
+    (ap (λ (s : Query). xgridded s c.in-Xgrid.field-1) c.deref-in-Xgrid.ensures
+    ∙ sym (ap query_of c.in-Xgrid.is) ∙ c.plan.view_is)
+    (refl, λ area places. refl)
+
+pub returns-in-Merge : goal.returns-in-Merge
+returns-in-Merge c =
+    subst (λ (q : Query). IsTwo q c.deref-in-Merge.result.now c.deref-in-Merge-2.result.now)
+    (ap (λ (l : Query). merged l c.deref-in-Merge-2.result.now) c.deref-in-Merge.ensures
+    ∙ ap (λ (r : Query). merged c.in-Merge.left.value r) c.deref-in-Merge-2.ensures
+    ∙ sym (ap query_of c.in-Merge.is) ∙ c.plan.view_is)
+    (refl, λ area places. refl)
+
+pub returns-in-Concat : goal.returns-in-Concat
+returns-in-Concat c =
+    subst (λ (q : Query). IsTwo q c.deref-in-Concat.result.now c.deref-in-Concat-2.result.now)
+    (ap (λ (l : Query). concatenated l c.deref-in-Concat-2.result.now) c.deref-in-Concat.ensures
+    ∙ ap (λ (r : Query). concatenated c.in-Concat.left.value r) c.deref-in-Concat-2.ensures
+    ∙ sym (ap query_of c.in-Concat.is) ∙ c.plan.view_is)
     (refl, λ area places. refl)
