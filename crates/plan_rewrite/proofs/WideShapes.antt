@@ -92,7 +92,7 @@ xgridded_wide n dims sizes rows w =
     (all-flat_map (λ (row : Row). IsWide n row.cell) spread rows
     (all-follows (λ (row : Row). IsWide n row.cell) (λ (row : Row). AreWide n (spread row))
     (λ row e. all-map (λ (made : Row). IsWide n made.cell) (λ c. placed c row.cell) (places_of (block_of dims sizes row.at.items))
-        (all-each (λ (c : Coordinate). IsWide n row.cell) (λ c. e) (places_of (block_of dims sizes row.at.items)))) rows w))
+    (all-each (λ (c : Coordinate). IsWide n row.cell) (λ c. e) (places_of (block_of dims sizes row.at.items)))) rows w))
 
 -- ---- unpack
 

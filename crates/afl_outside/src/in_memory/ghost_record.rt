@@ -3,9 +3,9 @@ ghost use Rattle.std.specs.Prelude.{◌≡◌, OnOk, OnErr, true};
 ghost use Rattle.afl_outside.specs.Disk.{ReadsAt};
 ghost use Rattle.afl_outside.specs.Inner.Records.{fresh, with_call, content_of};
 
+use crate::in_memory::call_history::CallHistory;
 use crate::in_memory::device_call::DeviceCall;
 use crate::in_memory::overlay::Overlay;
-use crate::in_memory::call_history::CallHistory;
 use cell_values::{Bytes, Memory};
 use std::marker::Model;
 

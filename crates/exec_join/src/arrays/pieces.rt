@@ -39,8 +39,20 @@ fn join_part(
 {
     let area = frame(schema, margins, number);
     let grid = grid_of(schema, margins, number);
-    let from_left = found_in(&left.schema, &left.margins, left.chunks.as_slice(), &area, &grid)?;
-    let from_right = found_in(&right.schema, &right.margins, right.chunks.as_slice(), &area, &grid)?;
+    let from_left = found_in(
+        &left.schema,
+        &left.margins,
+        left.chunks.as_slice(),
+        &area,
+        &grid,
+    )?;
+    let from_right = found_in(
+        &right.schema,
+        &right.margins,
+        right.chunks.as_slice(),
+        &area,
+        &grid,
+    )?;
     let made = meet(number, &grid, from_left, from_right)?;
     Ok(made)
 }
