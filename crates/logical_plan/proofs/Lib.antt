@@ -1,5 +1,6 @@
 pub use Rattle.array_rows.proofs.RowSets
 pub use Rattle.array_rows.proofs.RowsLemmas
+pub mod ArityLaws
 pub mod ArrayLaws
 pub mod BuiltRows
 pub mod Items

@@ -125,6 +125,11 @@ first_doubt : (unpack_meant numbered (whole (along (x_to_1 ∷ y_to_2 ∷ [])) (
 unfolding x_to_1 y_to_2 numbered
 first_doubt = refl
 
+-- there is no number beyond the last place
+no_place_left : (unpack_meant (along (line 0 1 0)) (whole (along (line 9 2 0)) (at1 (pos 3) (Null ∷ []) ∷ at1 (pos 4) (Null ∷ []) ∷ []))).rows
+    ≡ Ok (at1 (pos 0) (int 3 ∷ Null ∷ []) ∷ [])
+no_place_left = refl
+
 nothing_unpacked : (meaning nothing (unpacked no_cells (unpack_schema (codes "r") (schema_of no_cells)))).rows ≡ Ok []
 unfolding no_cells two_numbers
 nothing_unpacked = refl

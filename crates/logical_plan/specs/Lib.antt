@@ -2,6 +2,7 @@ pub use Rattle.array_rows.specs.Arrays
 pub use Rattle.array_rows.specs.Boxes
 pub use Rattle.array_rows.specs.Cellwise
 pub use Rattle.array_rows.specs.Rows
+pub mod Arity
 pub mod BoxOps
 pub mod CellOps
 pub mod Faults

@@ -28,10 +28,10 @@ unpack_schema name source = record { attributes = map numbers_of source.dimensio
 
 -- ---- xgrid
 
--- Beyond 64 bits, where no valid schema comes, a bound stays at the limit
 abbrev pub length_of : Dimension → ℕ
 length_of d = unsigned_abs (d.hi -ℤ d.lo) + 1
 
+-- with another high bound. Beyond 64 bits, where no valid schema comes, it stays at the limit
 abbrev pub with_high : Dimension → ℤ → Dimension
 with_high d high = record { name = d.name; lo = d.lo; hi = saturate_signed w64 high; chunk = d.chunk; overlap = d.overlap }
 

@@ -60,7 +60,7 @@ fn copy_scan(leaf: &Leaf) -> Result<Plan, Memory>
     Ok(Plan::scan(leaf.copy()?))
 }
 
-fn filter_of(source: Result<Box<Plan>, Memory>, test: &TypedExpr) -> Result<Plan, Memory>
+pub(crate) fn filter_of(source: Result<Box<Plan>, Memory>, test: &TypedExpr) -> Result<Plan, Memory>
     ensures { (q : Query) → IfOk source (λ b. b.value ≡ q) → IfOk result (λ p. p ≡ filtered q test.now) }
 {
     match both(source, test.copy()) {
@@ -71,7 +71,10 @@ fn filter_of(source: Result<Box<Plan>, Memory>, test: &TypedExpr) -> Result<Plan
     }
 }
 
-fn apply_of(source: Result<Box<Plan>, Memory>, values: &List<Applied>) -> Result<Plan, Memory>
+pub(crate) fn apply_of(
+    source: Result<Box<Plan>, Memory>,
+    values: &List<Applied>,
+) -> Result<Plan, Memory>
     ensures { (q : Query) → IfOk source (λ b. b.value ≡ q) → IfOk result (λ p. p ≡ applied q values.now) }
 {
     match both(source, values.copy()) {
@@ -82,7 +85,10 @@ fn apply_of(source: Result<Box<Plan>, Memory>, values: &List<Applied>) -> Result
     }
 }
 
-fn project_of(source: Result<Box<Plan>, Memory>, places: &List<u32>) -> Result<Plan, Memory>
+pub(crate) fn project_of(
+    source: Result<Box<Plan>, Memory>,
+    places: &List<u32>,
+) -> Result<Plan, Memory>
     ensures { (q : Query) → IfOk source (λ b. b.value ≡ q) → IfOk result (λ p. p ≡ projected q places.now) }
 {
     match both(source, places.copy()) {
@@ -93,7 +99,7 @@ fn project_of(source: Result<Box<Plan>, Memory>, places: &List<u32>) -> Result<P
     }
 }
 
-fn between_of(source: Result<Box<Plan>, Memory>, area: &Bounds) -> Result<Plan, Memory>
+pub(crate) fn between_of(source: Result<Box<Plan>, Memory>, area: &Bounds) -> Result<Plan, Memory>
     ensures { (q : Query) → IfOk source (λ b. b.value ≡ q) → IfOk result (λ p. p ≡ between q area.now) }
 {
     match both(source, area.copy()) {
@@ -104,7 +110,7 @@ fn between_of(source: Result<Box<Plan>, Memory>, area: &Bounds) -> Result<Plan, 
     }
 }
 
-fn subarray_of(source: Result<Box<Plan>, Memory>, area: &Bounds) -> Result<Plan, Memory>
+pub(crate) fn subarray_of(source: Result<Box<Plan>, Memory>, area: &Bounds) -> Result<Plan, Memory>
     ensures { (q : Query) → IfOk source (λ b. b.value ≡ q) → IfOk result (λ p. p ≡ subarray q area.now) }
 {
     match both(source, area.copy()) {
@@ -115,7 +121,10 @@ fn subarray_of(source: Result<Box<Plan>, Memory>, area: &Bounds) -> Result<Plan,
     }
 }
 
-fn slice_of(source: Result<Box<Plan>, Memory>, fixed: &List<Fixed>) -> Result<Plan, Memory>
+pub(crate) fn slice_of(
+    source: Result<Box<Plan>, Memory>,
+    fixed: &List<Fixed>,
+) -> Result<Plan, Memory>
     ensures { (q : Query) → IfOk source (λ b. b.value ≡ q) → IfOk result (λ p. p ≡ sliced q fixed.now) }
 {
     match both(source, fixed.copy()) {
@@ -126,7 +135,7 @@ fn slice_of(source: Result<Box<Plan>, Memory>, fixed: &List<Fixed>) -> Result<Pl
     }
 }
 
-fn join_of(
+pub(crate) fn join_of(
     left: Result<Box<Plan>, Memory>,
     right: Result<Box<Plan>, Memory>,
     schema: &Schema,
@@ -141,7 +150,7 @@ fn join_of(
     }
 }
 
-fn cross_join_of(
+pub(crate) fn cross_join_of(
     left: Result<Box<Plan>, Memory>,
     right: Result<Box<Plan>, Memory>,
     pairs: &List<Pair>,
@@ -157,7 +166,7 @@ fn cross_join_of(
     }
 }
 
-fn redimension_of(
+pub(crate) fn redimension_of(
     source: Result<Box<Plan>, Memory>,
     schema: &Schema,
     aggregates: &List<Aggregate>,
@@ -172,7 +181,7 @@ fn redimension_of(
     }
 }
 
-fn regrid_of(
+pub(crate) fn regrid_of(
     source: Result<Box<Plan>, Memory>,
     sizes: &List<u64>,
     aggregates: &List<Aggregate>,
@@ -187,7 +196,7 @@ fn regrid_of(
     }
 }
 
-fn window_of(
+pub(crate) fn window_of(
     source: Result<Box<Plan>, Memory>,
     reach: &List<Reach>,
     aggregates: &List<Aggregate>,
@@ -202,7 +211,7 @@ fn window_of(
     }
 }
 
-fn aggregate_of(
+pub(crate) fn aggregate_of(
     source: Result<Box<Plan>, Memory>,
     aggregates: &List<Aggregate>,
     dimensions: &List<u32>,
@@ -217,7 +226,7 @@ fn aggregate_of(
     }
 }
 
-fn sort_of(
+pub(crate) fn sort_of(
     source: Result<Box<Plan>, Memory>,
     keys: &List<u32>,
     schema: &Schema,
@@ -232,7 +241,7 @@ fn sort_of(
     }
 }
 
-fn rank_of(
+pub(crate) fn rank_of(
     source: Result<Box<Plan>, Memory>,
     attribute: u32,
     dimensions: &List<u32>,
@@ -247,7 +256,7 @@ fn rank_of(
     }
 }
 
-fn cumulate_of(
+pub(crate) fn cumulate_of(
     source: Result<Box<Plan>, Memory>,
     aggregates: &List<Aggregate>,
     dimension: u32,
@@ -262,7 +271,7 @@ fn cumulate_of(
     }
 }
 
-fn transpose_of(source: Result<Box<Plan>, Memory>) -> Result<Plan, Memory>
+pub(crate) fn transpose_of(source: Result<Box<Plan>, Memory>) -> Result<Plan, Memory>
     ensures { (q : Query) → IfOk source (λ b. b.value ≡ q) → IfOk result (λ p. p ≡ transposed q) }
 {
     match source {
@@ -273,7 +282,7 @@ fn transpose_of(source: Result<Box<Plan>, Memory>) -> Result<Plan, Memory>
     }
 }
 
-fn reverse_of(source: Result<Box<Plan>, Memory>) -> Result<Plan, Memory>
+pub(crate) fn reverse_of(source: Result<Box<Plan>, Memory>) -> Result<Plan, Memory>
     ensures { (q : Query) → IfOk source (λ b. b.value ≡ q) → IfOk result (λ p. p ≡ reversed q) }
 {
     match source {
@@ -284,7 +293,7 @@ fn reverse_of(source: Result<Box<Plan>, Memory>) -> Result<Plan, Memory>
     }
 }
 
-fn unpack_of(source: Result<Box<Plan>, Memory>, schema: &Schema) -> Result<Plan, Memory>
+pub(crate) fn unpack_of(source: Result<Box<Plan>, Memory>, schema: &Schema) -> Result<Plan, Memory>
     ensures { (q : Query) → IfOk source (λ b. b.value ≡ q) → IfOk result (λ p. p ≡ unpacked q schema.now) }
 {
     match both(source, schema.copy()) {
@@ -295,7 +304,7 @@ fn unpack_of(source: Result<Box<Plan>, Memory>, schema: &Schema) -> Result<Plan,
     }
 }
 
-fn xgrid_of(source: Result<Box<Plan>, Memory>, sizes: &List<u64>) -> Result<Plan, Memory>
+pub(crate) fn xgrid_of(source: Result<Box<Plan>, Memory>, sizes: &List<u64>) -> Result<Plan, Memory>
     ensures { (q : Query) → IfOk source (λ b. b.value ≡ q) → IfOk result (λ p. p ≡ xgridded q sizes.now) }
 {
     match both(source, sizes.copy()) {
@@ -306,7 +315,7 @@ fn xgrid_of(source: Result<Box<Plan>, Memory>, sizes: &List<u64>) -> Result<Plan
     }
 }
 
-fn merge_of(
+pub(crate) fn merge_of(
     left: Result<Box<Plan>, Memory>,
     right: Result<Box<Plan>, Memory>,
 ) -> Result<Plan, Memory>
@@ -320,7 +329,7 @@ fn merge_of(
     }
 }
 
-fn concat_of(
+pub(crate) fn concat_of(
     left: Result<Box<Plan>, Memory>,
     right: Result<Box<Plan>, Memory>,
 ) -> Result<Plan, Memory>
