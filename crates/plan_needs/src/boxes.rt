@@ -13,7 +13,7 @@ use logical_plan::{Fixed, Pair, Reach};
 
 /// The box, or nothing of any dimension where nothing is needed. A cross join needs of each source what the box has of that source's
 /// dimensions: of both it needs nothing only where no side has a place.
-fn unless_nothing(none: bool, sides: Sides) -> Sides
+pub(crate) fn unless_nothing(none: bool, sides: Sides) -> Sides
     ensures { result.items ≡ unless_nothing none sides.items }
 {
     if !none {

@@ -3,7 +3,9 @@
 
 mod boxes;
 mod laws;
+mod lines;
 mod needs;
+mod shapes;
 mod sides;
 mod stretch;
 

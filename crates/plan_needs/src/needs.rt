@@ -3,6 +3,8 @@ ghost use Rattle.std.specs.Prelude.{◌≡◌, ◌++◌, IfOk, OnOk};
 ghost use Rattle.logical_plan.specs.PlanSchema.{schema_of};
 ghost use Rattle.logical_plan.specs.Typing.{IsTyped};
 ghost use Rattle.plan_needs.specs.Needs.{is_scan, need, needs};
+ghost use Rattle.plan_needs.specs.OrderSides.{of_cumulate, of_rank};
+ghost use Rattle.plan_needs.specs.ShapeSides.{of_behind, of_front, of_reverse, of_xgrid};
 ghost use Rattle.plan_needs.specs.Sides.{of_aggregate, of_left, of_regrid, of_right, of_slice, of_subarray, of_window, whole};
 ghost use Rattle.plan_needs.specs.Sides.{Sides as BoxSides};
 
@@ -10,6 +12,8 @@ use crate::boxes::{
     are_near, of_aggregate, of_between, of_left, of_regrid, of_right, of_slice, of_subarray,
     of_windows, whole,
 };
+use crate::lines::{of_cumulate, of_rank};
+use crate::shapes::{of_behind, of_front, of_reverse, of_transpose, of_xgrid};
 use crate::sides::{Sides, box_of, copy_sides, sides_of};
 use cell_values::{Bounds, List, Memory};
 use logical_plan::{Fixed, Pair, Plan, PlanNode, Reach};
@@ -35,7 +39,16 @@ fn is_scan(plan: &Plan) -> bool
         | PlanNode::Redimension(..)
         | PlanNode::Regrid(..)
         | PlanNode::Window(..)
-        | PlanNode::Aggregate(..) => false,
+        | PlanNode::Aggregate(..)
+        | PlanNode::Sort(..)
+        | PlanNode::Rank(..)
+        | PlanNode::Cumulate(..)
+        | PlanNode::Transpose(..)
+        | PlanNode::Reverse(..)
+        | PlanNode::Unpack(..)
+        | PlanNode::Xgrid(..)
+        | PlanNode::Merge(..)
+        | PlanNode::Concat(..) => false,
     }
 }
 
@@ -130,6 +143,54 @@ fn of_groups(
     Ok(of_aggregate(&schema_of(alloc, source)?, places, sides))
 }
 
+fn of_ranks(
+    alloc: Global,
+    source: &Plan,
+    places: &List<u32>,
+    sides: &Sides,
+) -> Result<Sides, Memory>
+    ensures { IfOk result (λ r. r.items ≡ of_rank (schema_of source.now).dimensions places.now sides.now.items) }
+{
+    Ok(of_rank(&schema_of(alloc, source)?, places, sides))
+}
+
+fn of_line(alloc: Global, source: &Plan, place: u32, sides: &Sides) -> Result<Sides, Memory>
+    ensures { IfOk result (λ r. r.items ≡ of_cumulate (schema_of source.now).dimensions place sides.now.items) }
+{
+    Ok(of_cumulate(&schema_of(alloc, source)?, place, sides))
+}
+
+fn of_opposites(alloc: Global, source: &Plan, sides: &Sides) -> Result<Sides, Memory>
+    ensures { IfOk result (λ r. r.items ≡ of_reverse (schema_of source.now).dimensions sides.now.items) }
+{
+    Ok(of_reverse(&schema_of(alloc, source)?, sides))
+}
+
+fn of_sources(
+    alloc: Global,
+    source: &Plan,
+    sizes: &List<u64>,
+    sides: &Sides,
+) -> Result<Sides, Memory>
+    ensures { IfOk result (λ r. r.items ≡ of_xgrid (schema_of source.now).dimensions sizes.now sides.now.items) }
+{
+    Ok(of_xgrid(&schema_of(alloc, source)?, sizes, sides))
+}
+
+fn of_left_part(alloc: Global, left: &Plan, sides: &Sides) -> Result<Sides, Memory>
+    ensures { IfOk result (λ r. r.items ≡ of_front (schema_of left.now).dimensions sides.now.items) }
+{
+    Ok(of_front(&schema_of(alloc, left)?.dimensions, sides))
+}
+
+fn of_right_part(alloc: Global, left: &Plan, right: &Plan, sides: &Sides) -> Result<Sides, Memory>
+    ensures { IfOk result (λ r. r.items ≡ of_behind (schema_of left.now).dimensions (schema_of right.now).dimensions sides.now.items) }
+{
+    let left = schema_of(alloc, left)?;
+    let right = schema_of(alloc, right)?;
+    Ok(of_behind(&left.dimensions, &right.dimensions, sides))
+}
+
 /// Adds the box of each leaf of a source of which these sides are needed, from left to right.
 #[cycle(push_needs)]
 fn push_source(
@@ -184,6 +245,25 @@ fn push_crossed(
     push_source(alloc, found, right, second)
 }
 
+/// Adds the box of each leaf of the sources of a concat.
+#[cycle(push_needs)]
+fn push_concat(
+    alloc: Global,
+    found: &mut List<Bounds>,
+    left: &Plan,
+    right: &Plan,
+    sides: &Sides,
+) -> Result<(), Memory>
+    requires left { IsTyped left.now }
+    requires right { IsTyped right.now }
+    ensures { OnOk result (found.new ≡ found.old ++ (needs left.now (of_front (schema_of left.now).dimensions sides.now.items)
+        ++ needs right.now (of_behind (schema_of left.now).dimensions (schema_of right.now).dimensions sides.now.items))) }
+{
+    push_source(alloc, found, left, of_left_part(alloc, left, sides))?;
+    let second = of_right_part(alloc, left, right, sides);
+    push_source(alloc, found, right, second)
+}
+
 /// Adds the box of each leaf, from left to right.
 #[cycle(push_needs)]
 fn push_needs(
@@ -230,6 +310,28 @@ fn push_needs(
                 of_groups(alloc, source, places, sides),
             )
         }
+        PlanNode::Sort(source, _, _) => push_source(alloc, found, source, of_all(alloc, source)),
+        PlanNode::Rank(source, _, places) => {
+            push_source(alloc, found, source, of_ranks(alloc, source, places, sides))
+        }
+        PlanNode::Cumulate(source, _, place) => {
+            push_source(alloc, found, source, of_line(alloc, source, *place, sides))
+        }
+        PlanNode::Transpose(source) => push_needs(alloc, found, source, &of_transpose(sides)),
+        PlanNode::Reverse(source) => {
+            push_source(alloc, found, source, of_opposites(alloc, source, sides))
+        }
+        PlanNode::Unpack(source, _) => push_source(alloc, found, source, of_all(alloc, source)),
+        PlanNode::Xgrid(source, sizes) => {
+            push_source(
+                alloc,
+                found,
+                source,
+                of_sources(alloc, source, sizes, sides),
+            )
+        }
+        PlanNode::Merge(left, right) => push_both(alloc, found, left, right, sides),
+        PlanNode::Concat(left, right) => push_concat(alloc, found, left, right, sides),
     }
 }
 

@@ -5,6 +5,8 @@ use Rattle.logical_plan.specs.Query.{Query, query_size}
 use Rattle.logical_plan.specs.Typing.{IsTyped}
 use Rattle.logical_plan.specs.Inner.QueryView.{query_of}
 use Rattle.plan_needs.specs.Needs.{is_scan, needs}
+use Rattle.plan_needs.specs.OrderSides.{of_cumulate, of_rank}
+use Rattle.plan_needs.specs.ShapeSides.{of_behind, of_front, of_reverse, of_xgrid}
 use Rattle.plan_needs.specs.Sides.{of_aggregate, of_left, of_regrid, of_right, of_slice, of_subarray, of_window, whole}
 use Rattle.plan_needs.proofs.needs.+push_needs.Goals as goal
 
@@ -156,3 +158,145 @@ push_crossed-push_source-requires t c = (omega (arith, c.decreases), c.requires.
 
 pub push_crossed-push_source-requires-2 : goal.push_crossed-push_source-requires-2
 push_crossed-push_source-requires-2 t c = (omega (arith, c.decreases), c.requires.right)
+
+pub push_needs-push_source-requires-in-Sort : goal.push_needs-push_source-requires-in-Sort
+push_needs-push_source-requires-in-Sort t c =
+    let is = sym (ap query_of c.in-Sort.is) ∙ c.plan.view_is in
+    let whole : query_size c.in-Sort.source.value + 1 ≡ query_size c.args.plan.now = ap query_size is in
+    (omega (arith, whole, ap query_size c.deref-in-Sort.ensures, c.decreases), subst IsTyped (sym c.deref-in-Sort.ensures) (subst IsTyped (sym is) c.requires).0)
+
+pub push_needs-returns-in-Sort : goal.push_needs-returns-in-Sort
+push_needs-returns-in-Sort t c =
+    let found = c.args.found.now in
+    let sides = c.args.sides.now.items in
+    IfOk-equal c.push_source-in-Sort.result c.push_source-in-Sort.new.found _ _ (c.push_source-in-Sort.ensures _ c.of_all-in-Sort.ensures)
+    (ap (λ (p : Query). found ++ needs p (whole (schema_of c.deref-in-Sort-2.result.now).dimensions)) c.deref-in-Sort.ensures
+    ∙ ap (λ (p : Query). found ++ needs c.in-Sort.source.value (whole (schema_of p).dimensions)) c.deref-in-Sort-2.ensures
+    ∙ ap (λ (p : Query). found ++ needs p sides) (sym (ap query_of c.in-Sort.is) ∙ c.plan.view_is))
+
+pub push_needs-push_source-requires-in-Rank : goal.push_needs-push_source-requires-in-Rank
+push_needs-push_source-requires-in-Rank t c =
+    let is = sym (ap query_of c.in-Rank.is) ∙ c.plan.view_is in
+    let whole : query_size c.in-Rank.source.value + 1 ≡ query_size c.args.plan.now = ap query_size is in
+    (omega (arith, whole, ap query_size c.deref-in-Rank.ensures, c.decreases), subst IsTyped (sym c.deref-in-Rank.ensures) (subst IsTyped (sym is) c.requires).0)
+
+pub push_needs-returns-in-Rank : goal.push_needs-returns-in-Rank
+push_needs-returns-in-Rank t c =
+    let found = c.args.found.now in
+    let sides = c.args.sides.now.items in
+    IfOk-equal c.push_source-in-Rank.result c.push_source-in-Rank.new.found _ _ (c.push_source-in-Rank.ensures _ c.of_ranks.ensures)
+    (ap (λ (p : Query). found ++ needs p (of_rank (schema_of c.deref-in-Rank-2.result.now).dimensions c.in-Rank.places sides)) c.deref-in-Rank.ensures
+    ∙ ap (λ (p : Query). found ++ needs c.in-Rank.source.value (of_rank (schema_of p).dimensions c.in-Rank.places sides)) c.deref-in-Rank-2.ensures
+    ∙ ap (λ (p : Query). found ++ needs p sides) (sym (ap query_of c.in-Rank.is) ∙ c.plan.view_is))
+
+pub push_needs-push_source-requires-in-Cumulate : goal.push_needs-push_source-requires-in-Cumulate
+push_needs-push_source-requires-in-Cumulate t c =
+    let is = sym (ap query_of c.in-Cumulate.is) ∙ c.plan.view_is in
+    let whole : query_size c.in-Cumulate.source.value + 1 ≡ query_size c.args.plan.now = ap query_size is in
+    (omega (arith, whole, ap query_size c.deref-in-Cumulate.ensures, c.decreases), subst IsTyped (sym c.deref-in-Cumulate.ensures) (subst IsTyped (sym is) c.requires).0)
+
+pub push_needs-returns-in-Cumulate : goal.push_needs-returns-in-Cumulate
+push_needs-returns-in-Cumulate t c =
+    let found = c.args.found.now in
+    let sides = c.args.sides.now.items in
+    IfOk-equal c.push_source-in-Cumulate.result c.push_source-in-Cumulate.new.found _ _ (c.push_source-in-Cumulate.ensures _ c.of_line.ensures)
+    (ap (λ (p : Query). found ++ needs p (of_cumulate (schema_of c.deref-in-Cumulate-2.result.now).dimensions c.in-Cumulate.place sides)) c.deref-in-Cumulate.ensures
+    ∙ ap (λ (p : Query). found ++ needs c.in-Cumulate.source.value (of_cumulate (schema_of p).dimensions c.in-Cumulate.place sides)) c.deref-in-Cumulate-2.ensures
+    ∙ ap (λ (p : Query). found ++ needs p sides) (sym (ap query_of c.in-Cumulate.is) ∙ c.plan.view_is))
+
+pub push_needs-push_source-requires-in-Reverse : goal.push_needs-push_source-requires-in-Reverse
+push_needs-push_source-requires-in-Reverse t c =
+    let is = sym (ap query_of c.in-Reverse.is) ∙ c.plan.view_is in
+    let whole : query_size c.in-Reverse.source.value + 1 ≡ query_size c.args.plan.now = ap query_size is in
+    (omega (arith, whole, ap query_size c.deref-in-Reverse.ensures, c.decreases), subst IsTyped (sym c.deref-in-Reverse.ensures) (subst IsTyped (sym is) c.requires).0)
+
+pub push_needs-returns-in-Reverse : goal.push_needs-returns-in-Reverse
+push_needs-returns-in-Reverse t c =
+    let found = c.args.found.now in
+    let sides = c.args.sides.now.items in
+    IfOk-equal c.push_source-in-Reverse.result c.push_source-in-Reverse.new.found _ _ (c.push_source-in-Reverse.ensures _ c.of_opposites.ensures)
+    (ap (λ (p : Query). found ++ needs p (of_reverse (schema_of c.deref-in-Reverse-2.result.now).dimensions sides)) c.deref-in-Reverse.ensures
+    ∙ ap (λ (p : Query). found ++ needs c.in-Reverse.source.value (of_reverse (schema_of p).dimensions sides)) c.deref-in-Reverse-2.ensures
+    ∙ ap (λ (p : Query). found ++ needs p sides) (sym (ap query_of c.in-Reverse.is) ∙ c.plan.view_is))
+
+pub push_needs-push_source-requires-in-Unpack : goal.push_needs-push_source-requires-in-Unpack
+push_needs-push_source-requires-in-Unpack t c =
+    let is = sym (ap query_of c.in-Unpack.is) ∙ c.plan.view_is in
+    let whole : query_size c.in-Unpack.source.value + 1 ≡ query_size c.args.plan.now = ap query_size is in
+    (omega (arith, whole, ap query_size c.deref-in-Unpack.ensures, c.decreases), subst IsTyped (sym c.deref-in-Unpack.ensures) (subst IsTyped (sym is) c.requires).0)
+
+pub push_needs-returns-in-Unpack : goal.push_needs-returns-in-Unpack
+push_needs-returns-in-Unpack t c =
+    let found = c.args.found.now in
+    let sides = c.args.sides.now.items in
+    IfOk-equal c.push_source-in-Unpack.result c.push_source-in-Unpack.new.found _ _ (c.push_source-in-Unpack.ensures _ c.of_all-in-Unpack.ensures)
+    (ap (λ (p : Query). found ++ needs p (whole (schema_of c.deref-in-Unpack-2.result.now).dimensions)) c.deref-in-Unpack.ensures
+    ∙ ap (λ (p : Query). found ++ needs c.in-Unpack.source.value (whole (schema_of p).dimensions)) c.deref-in-Unpack-2.ensures
+    ∙ ap (λ (p : Query). found ++ needs p sides) (sym (ap query_of c.in-Unpack.is) ∙ c.plan.view_is))
+
+pub push_needs-push_source-requires-in-Xgrid : goal.push_needs-push_source-requires-in-Xgrid
+push_needs-push_source-requires-in-Xgrid t c =
+    let is = sym (ap query_of c.in-Xgrid.is) ∙ c.plan.view_is in
+    let whole : query_size c.in-Xgrid.source.value + 1 ≡ query_size c.args.plan.now = ap query_size is in
+    (omega (arith, whole, ap query_size c.deref-in-Xgrid.ensures, c.decreases), subst IsTyped (sym c.deref-in-Xgrid.ensures) (subst IsTyped (sym is) c.requires).0)
+
+pub push_needs-returns-in-Xgrid : goal.push_needs-returns-in-Xgrid
+push_needs-returns-in-Xgrid t c =
+    let found = c.args.found.now in
+    let sides = c.args.sides.now.items in
+    IfOk-equal c.push_source-in-Xgrid.result c.push_source-in-Xgrid.new.found _ _ (c.push_source-in-Xgrid.ensures _ c.of_sources.ensures)
+    (ap (λ (p : Query). found ++ needs p (of_xgrid (schema_of c.deref-in-Xgrid-2.result.now).dimensions c.in-Xgrid.sizes sides)) c.deref-in-Xgrid.ensures
+    ∙ ap (λ (p : Query). found ++ needs c.in-Xgrid.source.value (of_xgrid (schema_of p).dimensions c.in-Xgrid.sizes sides)) c.deref-in-Xgrid-2.ensures
+    ∙ ap (λ (p : Query). found ++ needs p sides) (sym (ap query_of c.in-Xgrid.is) ∙ c.plan.view_is))
+
+pub push_needs-push_needs-requires-in-Transpose : goal.push_needs-push_needs-requires-in-Transpose
+push_needs-push_needs-requires-in-Transpose t c =
+    let is = sym (ap query_of c.in-Transpose.is) ∙ c.plan.view_is in
+    let whole : query_size c.in-Transpose.source.value + 1 ≡ query_size c.args.plan.now = ap query_size is in
+    (omega (arith, whole, ap query_size c.deref-in-Transpose.ensures, c.decreases), subst IsTyped (sym c.deref-in-Transpose.ensures) (subst IsTyped (sym is) c.requires).0)
+
+pub push_needs-push_both-requires-in-Merge : goal.push_needs-push_both-requires-in-Merge
+push_needs-push_both-requires-in-Merge t c =
+    let is = sym (ap query_of c.in-Merge.is) ∙ c.plan.view_is in
+    let whole : query_size c.in-Merge.left.value + query_size c.in-Merge.right.value + 1 ≡ query_size c.args.plan.now = ap query_size is in
+    let typed = subst IsTyped (sym is) c.requires in (
+      omega (arith, whole, ap query_size c.deref-in-Merge.ensures, ap query_size c.deref-in-Merge-2.ensures, c.decreases),
+      (subst IsTyped (sym c.deref-in-Merge.ensures) typed.0, subst IsTyped (sym c.deref-in-Merge-2.ensures) typed.1),
+    )
+
+pub push_needs-push_concat-requires : goal.push_needs-push_concat-requires
+push_needs-push_concat-requires t c =
+    let is = sym (ap query_of c.in-Concat.is) ∙ c.plan.view_is in
+    let whole : query_size c.in-Concat.left.value + query_size c.in-Concat.right.value + 1 ≡ query_size c.args.plan.now = ap query_size is in
+    let typed = subst IsTyped (sym is) c.requires in (
+      omega (arith, whole, ap query_size c.deref-in-Concat.ensures, ap query_size c.deref-in-Concat-2.ensures, c.decreases),
+      (subst IsTyped (sym c.deref-in-Concat.ensures) typed.0, subst IsTyped (sym c.deref-in-Concat-2.ensures) typed.1),
+    )
+
+pub push_needs-returns-in-Merge : goal.push_needs-returns-in-Merge
+push_needs-returns-in-Merge t c =
+    let found = c.args.found.now in
+    let sides = c.args.sides.now.items in
+    IfOk-equal c.push_both-in-Merge.result c.push_both-in-Merge.new.found _ _ c.push_both-in-Merge.ensures
+    (ap (λ (p : Query). found ++ (needs p sides ++ needs c.deref-in-Merge-2.result.now sides)) c.deref-in-Merge.ensures
+    ∙ ap (λ (p : Query). found ++ (needs c.in-Merge.left.value sides ++ needs p sides)) c.deref-in-Merge-2.ensures
+    ∙ ap (λ (p : Query). found ++ needs p sides) (sym (ap query_of c.in-Merge.is) ∙ c.plan.view_is))
+
+pub push_needs-returns-in-Concat : goal.push_needs-returns-in-Concat
+push_needs-returns-in-Concat t c =
+    let found = c.args.found.now in
+    let sides = c.args.sides.now.items in
+    let left = c.in-Concat.left.value in
+    let right = c.deref-in-Concat-2.result.now in
+    IfOk-equal c.push_concat.result c.push_concat.new.found _ _ c.push_concat.ensures
+    (ap (λ (p : Query). found ++ (needs p (of_front (schema_of p).dimensions sides) ++ needs right (of_behind (schema_of p).dimensions (schema_of right).dimensions sides)))
+    c.deref-in-Concat.ensures
+    ∙ ap (λ (p : Query). found ++ (needs left (of_front (schema_of left).dimensions sides) ++ needs p (of_behind (schema_of left).dimensions (schema_of p).dimensions sides)))
+    c.deref-in-Concat-2.ensures
+    ∙ ap (λ (p : Query). found ++ needs p sides) (sym (ap query_of c.in-Concat.is) ∙ c.plan.view_is))
+
+pub push_concat-push_source-requires : goal.push_concat-push_source-requires
+push_concat-push_source-requires t c = (omega (arith, c.decreases), c.requires.left)
+
+pub push_concat-push_source-requires-2 : goal.push_concat-push_source-requires-2
+push_concat-push_source-requires-2 t c = (omega (arith, c.decreases), c.requires.right)

@@ -13,3 +13,6 @@ decreases-push_both l = 3 * (query_size l.left.now + query_size l.right.now) + 1
 
 abbrev pub decreases-push_crossed : goal.decreases-push_crossed
 decreases-push_crossed l = 3 * (query_size l.left.now + query_size l.right.now) + 2
+
+abbrev pub decreases-push_concat : goal.decreases-push_concat
+decreases-push_concat l = 3 * (query_size l.left.now + query_size l.right.now) + 2
