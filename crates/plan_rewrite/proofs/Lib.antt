@@ -4,8 +4,8 @@ pub mod KeptSteps
 pub mod ProjectSteps
 pub mod SameLaws
 mod SameShapes
-pub mod SettleSteps
 pub mod Settling
+pub mod StayLaws
 pub mod Steps
 pub mod ValidLess
 pub mod WideRows

@@ -13,7 +13,7 @@ use Rattle.logical_plan.proofs.BuiltRows.{all-map}
 use Rattle.plan_needs.proofs.RowLists.{all_where}
 use Rattle.plan_rewrite.specs.Inner.Wide.{IsWide, AreWide}
 
-pub IfThere : ℕ → Option Cell → Type 0
+unfoldable pub IfThere : ℕ → Option Cell → Type 0
 IfThere n None = ⊤
 IfThere n (Some cell) = IsWide n cell
 

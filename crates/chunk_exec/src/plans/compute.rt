@@ -61,7 +61,7 @@ fn over_one<S: ChunkSource, R: Threads + Sync, G: Gate>(
     boxes: &[Bounds],
 ) -> Result<ChunkedArray, ExecFault>
     requires can { CanCompute (S.state source.old) plan.now }
-    requires node { plan.now ≡ unary_query node.entry from.now }
+    requires node { plan.now ≡ unary_query node from.now }
     requires enough { next.old + length (leaves plan.now) ≤ length boxes.now }
     ensures computed { IfOk result (IsComputed next.old (drop next.old boxes.now) (S.state source.old) (S.state source.new) plan.now) }
     ensures next { OnOk result (next.new ≡ next.old + length (leaves plan.now)) }
@@ -89,7 +89,7 @@ fn over_two<S: ChunkSource, R: Threads + Sync, G: Gate>(
     boxes: &[Bounds],
 ) -> Result<ChunkedArray, ExecFault>
     requires can { CanCompute (S.state source.old) plan.now }
-    requires node { plan.now ≡ binary_query node.entry left.now right.now }
+    requires node { plan.now ≡ binary_query node left.now right.now }
     requires enough { next.old + length (leaves plan.now) ≤ length boxes.now }
     ensures computed { IfOk result (IsComputed next.old (drop next.old boxes.now) (S.state source.old) (S.state source.new) plan.now) }
     ensures next { OnOk result (next.new ≡ next.old + length (leaves plan.now)) }

@@ -55,7 +55,7 @@ pub(crate) fn given_array<S: ChunkSource>(
     boxes: &[Bounds],
 ) -> Result<ChunkedArray, ExecFault>
     requires can { CanCompute (S.state source.old) plan.now }
-    requires node { plan.now ≡ leaf_query node.entry }
+    requires node { plan.now ≡ leaf_query node }
     requires enough { next.old + length (leaves plan.now) ≤ length boxes.now }
     ensures computed { IfOk result (IsComputed next.old (drop next.old boxes.now) (S.state source.old) (S.state source.new) plan.now) }
     ensures next { OnOk result (next.new ≡ next.old + length (leaves plan.now)) }

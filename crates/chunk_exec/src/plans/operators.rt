@@ -33,7 +33,7 @@ pub(crate) fn of_one<R: Threads + Sync, G: Gate>(
     array: ChunkedArray,
 ) -> Result<ChunkedArray, Memory>
     requires can { CanOperate plan.now (array ∷ []) }
-    requires node { plan.now ≡ unary_query node.entry from.now }
+    requires node { plan.now ≡ unary_query node from.now }
     ensures { IfOk result (IsResultOf plan.now (array ∷ [])) }
 {
     match node {
@@ -68,7 +68,7 @@ pub(crate) fn of_two<R: Threads + Sync, G: Gate>(
     b: ChunkedArray,
 ) -> Result<ChunkedArray, Memory>
     requires can { CanOperate plan.now (a ∷ b ∷ []) }
-    requires node { plan.now ≡ binary_query node.entry left.now right.now }
+    requires node { plan.now ≡ binary_query node left.now right.now }
     ensures { IfOk result (IsResultOf plan.now (a ∷ b ∷ [])) }
 {
     match node {

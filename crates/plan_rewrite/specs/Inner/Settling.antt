@@ -1,6 +1,8 @@
 -- A plan with a box and a project that are to be put on it, operator by operator.
-use Rattle.std.specs.Prelude.{ℕ, if◌then◌else◌, List, length, Option, Some, None}
+use Rattle.std.specs.Prelude.{ℕ, Bool, true, false, if◌then◌else◌, List, length, Option, Some, None}
 use Rattle.cell_values.specs.declared.schema.Bounds.{Bounds}
+use Rattle.logical_plan.specs.declared.arity.UnaryNode.{UnaryNode}
+use Rattle.logical_plan.specs.declared.arity.UnaryNode.TheVariants.{Filter, Apply, Project, Between}
 use Rattle.logical_plan.specs.declared.parts.Applied.{Applied}
 use Rattle.logical_plan.specs.PlanSchema.{schema_of}
 use Rattle.logical_plan.specs.Query.{Query, built, listed, scanned, filtered, applied, projected, between, subarray}
@@ -13,29 +15,13 @@ use Rattle.plan_rewrite.specs.Inner.Trimmed.{met, picked, kept_for, places_for, 
 abbrev pub applied_for : ℕ → List Applied → Option (List ℕ) → Query → Query
 applied_for n values places source = shown (places_for n values places) (applied source (kept_for n values places))
 
--- the last operator of a plan over another source, or over two others
-abbrev pub over_one : Query → Query → Query
-over_one (subarray source own) new = subarray new own
-over_one (sliced source fixed) new = sliced new fixed
-over_one (redimensioned source schema gs) new = redimensioned new schema gs
-over_one (regridded source sizes gs) new = regridded new sizes gs
-over_one (windowed source reach gs) new = windowed new reach gs
-over_one (aggregated source gs groups) new = aggregated new gs groups
-over_one (sorted source keys schema) new = sorted new keys schema
-over_one (ranked source x dims) new = ranked new x dims
-over_one (cumulated source gs n) new = cumulated new gs n
-over_one (transposed source) new = transposed new
-over_one (reversed source) new = reversed new
-over_one (unpacked source schema) new = unpacked new schema
-over_one (xgridded source sizes) new = xgridded new sizes
-over_one query new = query
-
-abbrev pub over_two : Query → Query → Query → Query
-over_two (joined left right schema) a b = joined a b schema
-over_two (crossed left right pairs schema) a b = crossed a b pairs schema
-over_two (merged left right) a b = merged a b
-over_two (concatenated left right) a b = concatenated a b
-over_two query a b = query
+-- neither a box nor a project goes below the operator
+abbrev pub keeps_above : UnaryNode → Bool
+keeps_above (Filter test) = false
+keeps_above (Apply values) = false
+keeps_above (Project places) = false
+keeps_above (Between area) = false
+keeps_above node = true
 
 abbrev pub settle : Option Bounds → Option (List ℕ) → Query → Query
 settle area places (built schema e) = pending area places (built schema e)
