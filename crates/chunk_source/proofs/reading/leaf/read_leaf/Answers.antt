@@ -4,8 +4,9 @@ use Rattle.arrayvec.specs.ArrayVec.{ArrayVec}
 use Rattle.cell_values.specs.declared.schema.Schema.{Schema}
 use Rattle.array_geom.specs.declared.chunk.ChunkedArray.{ChunkedArray}
 use Rattle.array_geom.specs.Chunks.{IsChunk}
+use Rattle.array_geom.specs.Link.{NumbersRise}
 use Rattle.array_parts.specs.Placed.{HavePlaces}
-use Rattle.chunk_source.specs.Source.{IsStored, asks}
+use Rattle.chunk_source.specs.Source.{IsStored, asks, numbers_of}
 use Rattle.chunk_source.proofs.ReadingLeafLaws.{are_valid, have_places, is_told}
 use Rattle.chunk_source.proofs.ReadLemmas.{asked_after, asked_all, asked_none, front_after, keeps_on, listed_among, on_err, reads_still}
 use Rattle.chunk_source.proofs.reading.leaf.read_leaf.Goals as goal
@@ -17,7 +18,8 @@ read_chunks-requires-clause-listed g c =
 pub returns-clause-placed : goal.returns-clause-placed
 returns-clause-placed g c =
     let schema = c.args.leaf.now.schema in
-    let places = have_places schema c.margins_of.result.items c.as_slice.result.now c.in_ok-chunks.chunks c.margins_of.ensures c.requires.valid c.in_ok-chunks.ensures.stored in
+    let places = have_places schema c.margins_of.result.items c.as_slice.result.now c.in_ok-chunks.chunks c.margins_of.ensures c.requires.valid
+        (subst (λ (ks : List (ArrayVec ℕ)). NumbersRise (numbers_of ks)) (sym c.as_slice.ensures) c.in_ok-listed.ensures.rising) c.in_ok-chunks.ensures.stored in
     subst (λ (z : Schema). HavePlaces z c.margins_of.result.items c.in_ok-chunks.chunks) (sym c.in_ok-copy.ensures) places
 
 pub returns-clause-valid : goal.returns-clause-valid
