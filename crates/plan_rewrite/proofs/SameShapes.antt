@@ -1,6 +1,6 @@
 -- A plan in place of a source of another one that orders cells, moves them, or puts two arrays into one.
 use Rattle.std.proofs.Common.{◌≡◌, ℕ, List, ◌++◌, refl, sym, ap, ◌∙◌, subst}
-use Rattle.std.specs.Prelude.{◌&&◌, IsTrue}
+use Rattle.std.specs.Prelude.{IsTrue}
 use Rattle.cell_values.specs.declared.schema.Schema.{Schema}
 use Rattle.cell_values.specs.Schemas.{IsValid}
 use Rattle.logical_plan.specs.declared.parts.Aggregate.{Aggregate}

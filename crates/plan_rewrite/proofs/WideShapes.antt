@@ -1,5 +1,5 @@
 -- Cells that are ordered, moved, or of two arrays keep one value for each attribute.
-use Rattle.std.proofs.Common.{◌≡◌, ℕ, suc, ◌+◌, ℤ, Bool, true, false, cond, IsTrue, List, [], ◌∷◌, ◌++◌, map, length, Option, Some, None, Result, Ok, Err, refl, sym, ap, ◌∙◌, subst, length-append, arith}
+use Rattle.std.proofs.Common.{◌≡◌, ℕ, suc, ◌+◌, ℤ, Bool, true, false, cond, IsTrue, List, [], ◌∷◌, ◌++◌, map, length, Option, Some, None, Result, Ok, Err, refl, ap, ◌∙◌, length-append, arith}
 use Rattle.std.specs.Prelude.{◌&&◌, int_le, slice_get, IfOk}
 use Rattle.std.specs.List.{AllByRecursion, cons_option, flat_map}
 use Rattle.std.proofs.lemmas.List.{length-map}
@@ -16,7 +16,6 @@ use Rattle.array_rows.specs.Boxes.{by_pairs, is_inside, bounds_of, moved}
 use Rattle.array_rows.specs.Rows.{Coordinate, placed}
 use Rattle.expr_nulls.specs.Typing.{same_kind}
 use Rattle.logical_plan.specs.declared.parts.Aggregate.{Aggregate}
-use Rattle.logical_plan.specs.BoxOps.{items_at}
 use Rattle.logical_plan.specs.Faults.{and_then}
 use Rattle.logical_plan.specs.Groups.{cells_of, first_some}
 use Rattle.logical_plan.specs.Ordered.{comes_first, cumulate_cell, insert_by, numbered, rank_cell, sort_rows, sorted_by, unless_unsortable, unsortable_at}
@@ -92,7 +91,7 @@ xgridded_wide n dims sizes rows w =
     (all-flat_map (λ (row : Row). IsWide n row.cell) spread rows
     (all-follows (λ (row : Row). IsWide n row.cell) (λ (row : Row). AreWide n (spread row))
     (λ row e. all-map (λ (made : Row). IsWide n made.cell) (λ c. placed c row.cell) (places_of (block_of dims sizes row.at.items))
-        (all-each (λ (c : Coordinate). IsWide n row.cell) (λ c. e) (places_of (block_of dims sizes row.at.items)))) rows w))
+    (all-each (λ (c : Coordinate). IsWide n row.cell) (λ c. e) (places_of (block_of dims sizes row.at.items)))) rows w))
 
 -- ---- unpack
 

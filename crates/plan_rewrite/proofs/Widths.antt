@@ -1,6 +1,6 @@
 -- The cells of a typed plan have one value for each of its attributes.
-use Rattle.std.proofs.Common.{◌≡◌, ℕ, suc, ◌+◌, ℤ, Bool, true, false, List, [], ◌∷◌, ◌++◌, map, filter, length, drop, cond, Option, Some, None, Result, Ok, Err, refl, sym, ap, ◌∙◌, subst, length-append, length-drop, arith}
-use Rattle.std.specs.Prelude.{◌-ℤ◌, slice_index_or, IfOk, ⊤}
+use Rattle.std.proofs.Common.{◌≡◌, ℕ, suc, ◌+◌, ℤ, true, false, List, [], ◌∷◌, ◌++◌, map, length, drop, cond, Option, Some, None, Result, Ok, Err, refl, sym, ap, ◌∙◌, subst, length-append, length-drop, arith}
+use Rattle.std.specs.Prelude.{◌-ℤ◌, slice_index_or, IfOk}
 use Rattle.std.specs.Option.{option_map}
 use Rattle.std.specs.Ordering.{is_eq}
 use Rattle.std.specs.declared.cmp.Ordering.{Ordering}
@@ -20,8 +20,7 @@ use Rattle.cell_values.specs.Cells.{AreOfKinds, IsCellOf}
 use Rattle.cell_values.specs.Schemas.{attribute_names, dimension_names}
 use Rattle.array_geom.proofs.TestLaws.{and_parts}
 use Rattle.array_rows.specs.Arrays.{AreRowsOf}
-use Rattle.array_rows.specs.Boxes.{by_pairs, is_inside, within, meet, bounds_of, moved}
-use Rattle.array_rows.specs.Cellwise.{cell_wise, put_first}
+use Rattle.array_rows.specs.Boxes.{by_pairs, is_inside, within, meet, bounds_of}
 use Rattle.array_rows.specs.Rows.{Coordinate, row_major, placed, rows_where, in_order, cell_at}
 use Rattle.expr_nulls.specs.Expr.{Expr}
 use Rattle.expr_nulls.specs.ExprValue.{value_of}
@@ -51,7 +50,7 @@ use Rattle.plan_rewrite.specs.Inner.Wide.{IsWide, AreWide}
 use Rattle.plan_needs.specs.Sufficient.{HasArrays}
 use Rattle.plan_rewrite.proofs.ItemPlaces.{length_picked}
 use Rattle.plan_rewrite.proofs.ProjectSteps.{applied_length}
-use Rattle.plan_needs.proofs.RowLists.{all_where, each_made}
+use Rattle.plan_needs.proofs.RowLists.{each_made}
 use Rattle.plan_needs.proofs.Inside.{AreInside}
 use Rattle.plan_needs.proofs.InsidePlans.{insides}
 use Rattle.plan_needs.proofs.LeafParts.{left_arrays, right_arrays}
