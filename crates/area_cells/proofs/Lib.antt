@@ -8,6 +8,5 @@ pub mod FillLaws
 pub mod FoundLaws
 pub mod ListedLaws
 pub mod PieceLaws
-pub mod RisingLaws
 pub mod StretchLaws
 pub mod TakingLaws

@@ -151,9 +151,7 @@ fn found_in_chunk<'a>(
     let mut found = chunk.positions.another();
     let mut at = 0;
     'taking: while at < places.len() {
-        at = take_stretch(
-            &mut found, &source, target, &core, area, form, places, at,
-        )?;
+        at = take_stretch(&mut found, &source, target, &core, area, form, places, at)?;
     }
     Ok(found)
 }

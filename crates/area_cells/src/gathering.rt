@@ -116,7 +116,7 @@ fn push_cuts(
     push_cuts(cuts, schema, margins, back, area)
 }
 
-/// Copies of the rows of an array's cores that lie in a box, from chunks whose numbers rise.
+/// Copies of the rows of an array's cores that lie in a box.
 pub fn rows_in_area(
     schema: &Schema,
     margins: &Margins,
@@ -125,7 +125,6 @@ pub fn rows_in_area(
 ) -> Result<List<Row>, Memory>
     requires places { HavePlaces schema.now margins.now.items chunks.now }
     requires cores { CoresRise schema.now.dimensions margins.now.items chunks.now }
-    requires rise { NumbersRise (numbers chunks.now) }
     ensures { IfOk result (λ rows. rows ≡ within area.now (core_rows schema.now.dimensions margins.now.items chunks.now)) }
 {
     let mut cuts = schema.dimensions.another();

@@ -9,7 +9,6 @@ mod framing;
 mod gathering;
 mod merging;
 mod numbering;
-mod rising;
 mod stretches;
 
 pub use bands::{count_in_band, half_of_bands, rows_of_chunks};
@@ -20,4 +19,3 @@ pub use finding::{Found, found_in};
 pub use framing::{array_of_parts, chunk_of_rows};
 pub use gathering::rows_in_area;
 pub use numbering::numbers_of;
-pub use rising::are_rising;

@@ -11,7 +11,8 @@ use array_geom::Grid;
 use cell_values::{List, Memory};
 use std::cmp::Ordering;
 
-/// Adds the next cell of the two, and says where they go on. Of two at one place the left one stays.
+/// Adds the next cell of the two, and says where they go on. Of two at one place the left one
+/// stays.
 fn put_next<'a>(
     made: &mut List<Found<'a>>,
     left: &[Found<'a>],

@@ -10,8 +10,8 @@ use array_geom::Grid;
 use array_rows::is_in_box;
 use cell_values::Bounds;
 
-/// Places of a grid from one on that stand in one of its rows: all in two boxes, or none. Those inside stand in another grid too,
-/// from `there` on.
+/// Places of a grid, from one up to a last one, that stand in one of its rows: all lie in two boxes,
+/// or none does. Where they do they stand in another grid too, from `there` on.
 #[derive(Drop)]
 pub(crate) struct Stretch {
     pub(crate) from: u64,

@@ -40,7 +40,7 @@ xgridded_array schema sizes typed valid m same is =
     subst (λ (s : Schema). IfOk (if_whole (xgrid_rows s.dimensions sizes) m.rows) (AreRowsOf (xgrid_schema sizes schema))) (sym same)
     (whole_follows (AreRowsOf schema) (AreRowsOf (xgrid_schema sizes schema)) (xgrid_rows schema.dimensions sizes)
     (λ rows are. pulled_arrays schema (xgrid_schema sizes schema) (blocks_back schema.dimensions sizes) rows (xgrid_rows schema.dimensions sizes rows) valid refl are
-        (xgrid_cells schema.dimensions sizes rows (all_enlarge schema.dimensions sizes (valid_placed schema are.valid).near can.0) are.are_rows)) m.rows is)
+    (xgrid_cells schema.dimensions sizes rows (all_enlarge schema.dimensions sizes (valid_placed schema are.valid).near can.0) are.are_rows)) m.rows is)
 
 pub unpacked_array : (schema target : Schema) → target ≡ unpack_schema (first_name target.dimensions) schema → IsValid target → (r : Result (List Row) Broken) → IfOk r (AreRowsOf schema)
     → IfOk (if_whole (within (bounds_of target.dimensions)) (and_then unpack_rows r)) (AreRowsOf target)
@@ -66,4 +66,4 @@ concatenated_array left right typed valid m n e f p q =
     (subst (λ (s : Schema). IfOk (and_then (λ ls. if_whole (concat_rows (step_between left.dimensions s.dimensions) ls) n.rows) m.rows) (AreRowsOf (concat_schema left right))) (sym f)
     (both_follow (AreRowsOf left) (AreRowsOf right) (AreRowsOf (concat_schema left right)) (concat_rows (step_between left.dimensions right.dimensions))
     (λ ls rs a b. concats_are_arrays left right ls rs valid (kinds_are_same left.attributes right.attributes can.1)
-        (follows left.dimensions right.dimensions (valid_placed left a.valid).near (valid_placed right b.valid).near can.0) a b) m.rows n.rows p q))
+    (follows left.dimensions right.dimensions (valid_placed left a.valid).near (valid_placed right b.valid).near can.0) a b) m.rows n.rows p q))

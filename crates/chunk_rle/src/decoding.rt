@@ -17,11 +17,11 @@ ghost use Rattle.chunk_rle.specs.Stored.{IsStored};
 ghost use Rattle.chunk_rle.specs.Table.{payload};
 ghost use Rattle.chunk_rle.specs.declared.runs.RunChunk.{RunChunk as ARunChunk};
 
-use crate::expanding::{cells, positions};
+use crate::expanding::chunk_of_runs;
 use crate::places::{Places, places_of};
 use crate::reading::payload;
-use crate::runs::{ChunkRuns, RunChunk};
-use array_geom::{Attribute, Chunk, ChunkAt, Memory, Schema, copy_numbers};
+use crate::runs::{ChunkRuns, RunChunk, numbered};
+use array_geom::{Attribute, Chunk, ChunkAt, Memory, Schema};
 use file_items::Stop;
 use std::alloc::Global;
 
@@ -45,21 +45,6 @@ fn told(bytes: &[u8], stop: Stop) -> BadPayload
     }
 }
 
-/// The chunk that these runs are of.
-fn chunk(alloc: Global, at: &ChunkAt, runs: &ChunkRuns) -> Result<Chunk, Memory>
-    requires within { All (λ run. run.start + run.length < 2 ^ 64) runs.now.positions }
-    requires long { AreLong (length (positions_of runs.now.positions)) (all_values runs.now.columns) }
-    ensures { IfOk result (λ chunk. chunk ≡ chunk_of at.now runs.now) }
-{
-    let positions = positions(alloc, runs.positions.as_slice())?;
-    let cells = cells(alloc, runs.columns.as_slice(), positions.len())?;
-    Ok(Chunk {
-        at: copy_numbers(at),
-        positions,
-        cells,
-    })
-}
-
 fn chunk_at(
     alloc: Global,
     places: &Places,
@@ -71,7 +56,7 @@ fn chunk_at(
     ensures { IsRead (λ x. x) result (chunk_payload (frame_in places.now) at.now attributes.now bytes.now) }
 {
     match payload(alloc, places, attributes, bytes) {
-        Ok(runs) => match chunk(alloc, at, &runs) {
+        Ok(runs) => match chunk_of_runs(alloc, &numbered(at, runs)) {
             Ok(chunk) => Ok(chunk),
             Err(Memory) => Err(Stop::Memory),
         },
@@ -79,8 +64,14 @@ fn chunk_at(
     }
 }
 
-/// The chunk with this number that all of these bytes spell, or how many of them are left at the first wrong item.
-pub fn payload_chunk(alloc: Global, schema: &Schema, at: &ChunkAt, bytes: &[u8]) -> Result<Chunk, Stop>
+/// The chunk with this number that all of these bytes spell, or how many of them are left at the
+/// first wrong item.
+pub fn payload_chunk(
+    alloc: Global,
+    schema: &Schema,
+    at: &ChunkAt,
+    bytes: &[u8],
+) -> Result<Chunk, Stop>
     requires valid { IsValid schema.now }
     requires core { IsTrue (has_core schema.now.dimensions at.now.items) }
     ensures read { IsRead (λ x. x) result (chunk_payload (frame_of schema.now at.now.items) at.now schema.now.attributes bytes.now) }
@@ -131,20 +122,8 @@ fn stored_runs(
     payload(alloc, &places, schema.attributes.as_slice(), bytes)
 }
 
-/// Runs with their chunk's number.
-fn numbered(at: &ChunkAt, runs: ChunkRuns) -> RunChunk
-    ensures { (result.at ≡ at.now) × (runs_of result ≡ runs) }
-{
-    let ChunkRuns { positions, columns } = runs;
-    RunChunk {
-        at: copy_numbers(at),
-        positions,
-        columns,
-    }
-}
-
-/// The chunk with this number that these bytes spell, run by run: no run is expanded. What is answered is what `decode` answers: the
-/// chunk whose cells these runs are, or the same offset.
+/// The chunk with this number that these bytes spell, run by run: no run is expanded. What is
+/// answered is what `decode` answers: the chunk whose cells these runs are, or the same offset.
 pub fn decode_runs(
     alloc: Global,
     schema: &Schema,

@@ -1,6 +1,5 @@
 //! Joins of arrays.
 
-mod building;
 mod cross_numbers;
 mod cross_pieces;
 mod crossed;

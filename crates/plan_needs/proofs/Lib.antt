@@ -17,6 +17,7 @@ pub mod Inside
 pub mod InsidePlans
 pub mod InsideShapes
 pub mod LeafParts
+pub mod NeedsByArity
 pub mod RowLists
 pub mod Saturated
 pub mod TargetLaws

@@ -1,3 +1,4 @@
+pub mod Inner
 pub mod Needs
 pub mod OrderSides
 pub mod ShapeSides

@@ -175,13 +175,14 @@ pub low_within : (area : Bounds) (rows some : List Row) → some ≡ within area
 low_within area rows some e low = subst HaveLowPlaces (sym e) (all_kept (λ row. AreLow row.at.items) (λ row. is_inside area row.at.items) rows low)
 
 -- the parts of all windows, one for each chunk whose core has a cell
-pub whole_parts : (source target : Schema) (old margins : List ℕ) (reach : List Reach) (gs : List Aggregate) (chunks parts : List Chunk) → target.dimensions ≡ source.dimensions → HaveCells source old chunks → numbers parts ≡ numbers chunks → NumbersRise (numbers chunks)
-    → AllByRecursion (λ k. length k ≡ length source.dimensions) (numbers chunks) → AllByRecursion (IsPart target.dimensions margins (window_rows reach gs (core_rows source.dimensions old chunks))) parts
+pub whole_parts : (source target : Schema) (old margins : List ℕ) (reach : List Reach) (gs : List Aggregate) (chunks parts : List Chunk) → target.dimensions ≡ source.dimensions → HaveCells source old chunks → numbers parts ≡ numbers chunks
+    → AllByRecursion (IsPart target.dimensions margins (window_rows reach gs (core_rows source.dimensions old chunks))) parts
     → AreParts target.dimensions margins (window_rows reach gs (core_rows source.dimensions old chunks)) parts
-whole_parts source target old margins reach gs chunks parts same cells e rise sized each =
+whole_parts source target old margins reach gs chunks parts same cells e each =
     let rows = core_rows source.dimensions old chunks in
     subst (λ (ds : List Dimension). AreParts ds margins (window_rows reach gs rows) parts) (sym same)
-    (changed_parts source.dimensions margins (window_cell reach gs rows) rows chunks parts e rise sized (λ k l h. core_listed source.dimensions old chunks k (valid_placed source cells.placed.valid).near sized l h)
+    (changed_parts source.dimensions margins (window_cell reach gs rows) rows chunks parts e cells.placed.rising cells.placed.sized
+    (λ k l h. core_listed source.dimensions old chunks k (valid_placed source cells.placed.valid).near cells.placed.sized l h)
     (subst (λ (ds : List Dimension). AllByRecursion (IsPart ds margins (window_rows reach gs rows)) parts) same each))
 
 pub same_frame : (source target : Schema) (old margins : List ℕ) (chunk : Chunk) → target.dimensions ≡ source.dimensions → HasFrames target margins → HasPlaces source old chunk → HasFrame target margins chunk.at.items
@@ -190,9 +191,9 @@ same_frame source target old margins chunk same frames placed =
 
 -- each number is that of a chunk whose windows can be made
 pub can_have_windows : (array : ChunkedArray) (reach : List Reach) (gs : List Aggregate) (target : Schema) (margins : List ℕ) (ks : List (ArrayVec ℕ)) → ks ≡ map (λ chunk. chunk.at) array.chunks → HasFrames target margins
-    → HaveCells array.schema array.margins.items array.chunks → NumbersRise (numbers array.chunks) → IsTrue (are_windows_of array.schema reach) → IsTrue (are_aggregates_of array.schema.attributes gs) → target.dimensions ≡ array.schema.dimensions
-    → AllByRecursion (λ number. HaveCells array.schema array.margins.items array.chunks × NumbersRise (numbers array.chunks) × IsTrue (are_windows_of array.schema reach) × IsTrue (are_aggregates_of array.schema.attributes gs) × (target.dimensions ≡ array.schema.dimensions) × HasFrame target margins number.items) ks
-can_have_windows array reach gs target margins ks e frames cells rises reached typed same =
-    let can : ArrayVec ℕ → Type 0 = λ number. HaveCells array.schema array.margins.items array.chunks × NumbersRise (numbers array.chunks) × IsTrue (are_windows_of array.schema reach) × IsTrue (are_aggregates_of array.schema.attributes gs) × (target.dimensions ≡ array.schema.dimensions) × HasFrame target margins number.items in
+    → HaveCells array.schema array.margins.items array.chunks → IsTrue (are_windows_of array.schema reach) → IsTrue (are_aggregates_of array.schema.attributes gs) → target.dimensions ≡ array.schema.dimensions
+    → AllByRecursion (λ number. HaveCells array.schema array.margins.items array.chunks × IsTrue (are_windows_of array.schema reach) × IsTrue (are_aggregates_of array.schema.attributes gs) × (target.dimensions ≡ array.schema.dimensions) × HasFrame target margins number.items) ks
+can_have_windows array reach gs target margins ks e frames cells reached typed same =
+    let can : ArrayVec ℕ → Type 0 = λ number. HaveCells array.schema array.margins.items array.chunks × IsTrue (are_windows_of array.schema reach) × IsTrue (are_aggregates_of array.schema.attributes gs) × (target.dimensions ≡ array.schema.dimensions) × HasFrame target margins number.items in
     subst (λ (z : List (ArrayVec ℕ)). AllByRecursion can z) (sym e)
-    (each_number can (HasPlaces array.schema array.margins.items) (λ chunk placed. (cells, rises, reached, typed, same, same_frame array.schema target array.margins.items margins chunk same frames placed)) array.chunks cells.placed.all)
+    (each_number can (HasPlaces array.schema array.margins.items) (λ chunk placed. (cells, reached, typed, same, same_frame array.schema target array.margins.items margins chunk same frames placed)) array.chunks cells.placed.all)

@@ -8,4 +8,3 @@ mod windows;
 
 pub(crate) use corners::{reach_of, window_of};
 pub(crate) use windows::windows_inside;
-pub use windows::windows_of_rows;

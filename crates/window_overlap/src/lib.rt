@@ -6,4 +6,3 @@ mod chunks;
 mod dense;
 
 pub use arrays::window;
-pub use chunks::windows_of_rows;

@@ -7,7 +7,8 @@ ghost use Rattle.array_rows.specs.Seen.{seen};
 
 use crate::columns::faults::fault_in;
 use crate::columns::filling::{
-    copy_columns, empty_columns, number_in, push_each, push_first, push_place, push_places, small_in, values_at,
+    copy_columns, empty_columns, number_in, push_each, push_first, push_place, push_places,
+    small_in, values_at,
 };
 use crate::columns::{Column, Small};
 use cell_values::{Datum, FaultKind, List, Memory};

@@ -61,7 +61,8 @@ fn push_beside(
     }
 }
 
-/// Looks at the next cell of the two, joins both where they stand at one place, and says where they go on.
+/// Looks at the next cell of the two, joins both where they stand at one place, and says where they
+/// go on.
 fn meet_next(
     made: &mut Chunk,
     left: &[Found<'_>],

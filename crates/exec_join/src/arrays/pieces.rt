@@ -1,9 +1,9 @@
 //! Joins chunk by chunk: each chunk from the rows that both arrays have in its frame.
-ghost use Rattle.std.specs.Prelude.{◌≡◌, None, length, IfOk};
+ghost use Rattle.std.specs.Prelude.{◌≡◌, None, IfOk};
 ghost use Rattle.std.specs.List.{AllByRecursion};
 ghost use Rattle.cell_values.specs.Schemas.{IsValid};
 ghost use Rattle.array_geom.specs.Geometry.{HasFrame, overlaps};
-ghost use Rattle.array_geom.specs.Link.{Is, IsPart, NumbersRise, numbers};
+ghost use Rattle.array_geom.specs.Link.{Is, IsPart, numbers};
 ghost use Rattle.array_parts.specs.Cores.{HaveCells, cores_of, meant_by_cores};
 ghost use Rattle.array_parts.specs.Placed.{HasPlaces};
 ghost use Rattle.chunk_cells.specs.Frames.{HasFrames};
@@ -30,8 +30,6 @@ fn join_part(
 ) -> Result<Chunk, Memory>
     requires left_cells { HaveCells left.now.schema left.now.margins.items left.now.chunks }
     requires right_cells { HaveCells right.now.schema right.now.margins.items right.now.chunks }
-    requires left_rise { NumbersRise (numbers left.now.chunks) }
-    requires right_rise { NumbersRise (numbers right.now.chunks) }
     requires framed { HasFrame schema.now margins.now.items number.now.items }
     ensures number { IfOk result (λ made. made.at ≡ number.now) }
     ensures places { IfOk result (HasPlaces schema.now margins.now.items) }
@@ -39,8 +37,20 @@ fn join_part(
 {
     let area = frame(schema, margins, number);
     let grid = grid_of(schema, margins, number);
-    let from_left = found_in(&left.schema, &left.margins, left.chunks.as_slice(), &area, &grid)?;
-    let from_right = found_in(&right.schema, &right.margins, right.chunks.as_slice(), &area, &grid)?;
+    let from_left = found_in(
+        &left.schema,
+        &left.margins,
+        left.chunks.as_slice(),
+        &area,
+        &grid,
+    )?;
+    let from_right = found_in(
+        &right.schema,
+        &right.margins,
+        right.chunks.as_slice(),
+        &area,
+        &grid,
+    )?;
     let made = meet(number, &grid, from_left, from_right)?;
     Ok(made)
 }
@@ -57,7 +67,6 @@ struct OfBoth<'a> {
 impl Work<ChunkAt, Chunk> for OfBoth<'_> {
     ghost accepts = { λ of number. HaveCells of.left.now.schema of.left.now.margins.items of.left.now.chunks
         × HaveCells of.right.now.schema of.right.now.margins.items of.right.now.chunks
-        × NumbersRise (numbers of.left.now.chunks) × NumbersRise (numbers of.right.now.chunks)
         × HasFrame of.schema.now of.margins.now.items number.items };
 
     ghost gives = { λ of number made. IsPartAt of.schema.now of.margins.now.items (join_rows (cores_of of.left.now) (cores_of of.right.now)) number made };
@@ -80,8 +89,6 @@ fn join_parts<R: Threads + Sync, G: Gate>(
 ) -> Result<List<Chunk>, Memory>
     requires left_cells { HaveCells left.now.schema left.now.margins.items left.now.chunks }
     requires right_cells { HaveCells right.now.schema right.now.margins.items right.now.chunks }
-    requires left_rise { NumbersRise (numbers left.now.chunks) }
-    requires right_rise { NumbersRise (numbers right.now.chunks) }
     requires schema { schema.now ≡ join_schema left.now.schema right.now.schema }
     requires frames { HasFrames schema.now margins.now.items }
     ensures numbers { IfOk result (λ parts. numbers parts ≡ numbers left.now.chunks) }
@@ -110,9 +117,6 @@ pub(crate) fn by_parts<R: Threads + Sync, G: Gate>(
     requires right_whole { right.broken ≡ None }
     requires left_cells { HaveCells left.schema left.margins.items left.chunks }
     requires right_cells { HaveCells right.schema right.margins.items right.chunks }
-    requires left_rise { NumbersRise (numbers left.chunks) }
-    requires right_rise { NumbersRise (numbers right.chunks) }
-    requires sized { AllByRecursion (λ k. length k ≡ length left.schema.dimensions) (numbers left.chunks) }
     requires schema { schema.now ≡ join_schema left.schema right.schema }
     requires valid { IsValid schema.now }
     ensures array { IfOk result (λ made. Is made (join_meant schema.now (meant_by_cores left) (meant_by_cores right))) }

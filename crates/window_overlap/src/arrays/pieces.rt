@@ -21,7 +21,7 @@ use crate::dense::{
     all_full, chunk_of_windows, columns_of, fits, grid_between, grid_from, offsets, window_grid,
 };
 use afl_outside::Gate;
-use area_cells::{array_of_parts, chunk_of_rows, found_in, numbers_of, rows_in_area};
+use area_cells::{are_few, array_of_parts, chunk_of_rows, found_in, numbers_of, rows_in_area};
 use array_geom::{Chunk, ChunkedArray, frame, grid_of, margins_of};
 use cell_values::{Bounds, ChunkAt, List, Margins, Memory, Row, Schema};
 use chunk_workers::{Crew, Work, over_pieces};
@@ -39,7 +39,6 @@ fn windows_in(
     area: &Bounds,
 ) -> Result<List<Row>, Memory>
     requires cells { HaveCells array.now.schema array.now.margins.items array.now.chunks }
-    requires rise { NumbersRise (numbers array.now.chunks) }
     requires reach { IsTrue (are_windows_of array.now.schema reach.now) }
     requires typed { IsTrue (are_aggregates_of array.now.schema.attributes aggs.now) }
     requires same { target.now.dimensions ≡ array.now.schema.dimensions }
@@ -71,7 +70,6 @@ fn windows_by_places(
     area: &Bounds,
 ) -> Result<Option<Chunk>, Memory>
     requires cells { HaveCells array.now.schema array.now.margins.items array.now.chunks }
-    requires rise { NumbersRise (numbers array.now.chunks) }
     requires reach { IsTrue (are_windows_of array.now.schema reach.now) }
     requires typed { IsTrue (are_aggregates_of array.now.schema.attributes aggs.now) }
     requires same { target.now.dimensions ≡ array.now.schema.dimensions }
@@ -133,7 +131,6 @@ fn window_part(
     number: &ChunkAt,
 ) -> Result<Chunk, Memory>
     requires cells { HaveCells array.now.schema array.now.margins.items array.now.chunks }
-    requires rise { NumbersRise (numbers array.now.chunks) }
     requires reach { IsTrue (are_windows_of array.now.schema reach.now) }
     requires typed { IsTrue (are_aggregates_of array.now.schema.attributes aggs.now) }
     requires same { target.now.dimensions ≡ array.now.schema.dimensions }
@@ -163,7 +160,6 @@ struct OfArray<'a> {
 
 impl Work<ChunkAt, Chunk> for OfArray<'_> {
     ghost accepts = { λ of number. HaveCells of.array.now.schema of.array.now.margins.items of.array.now.chunks
-        × NumbersRise (numbers of.array.now.chunks)
         × IsTrue (are_windows_of of.array.now.schema of.reach.now)
         × IsTrue (are_aggregates_of of.array.now.schema.attributes of.aggs.now)
         × (of.target.now.dimensions ≡ of.array.now.schema.dimensions)
@@ -196,7 +192,6 @@ fn window_parts<R: Threads + Sync, G: Gate>(
     margins: &Margins,
 ) -> Result<List<Chunk>, Memory>
     requires cells { HaveCells array.now.schema array.now.margins.items array.now.chunks }
-    requires rise { NumbersRise (numbers array.now.chunks) }
     requires reach { IsTrue (are_windows_of array.now.schema reach.now) }
     requires typed { IsTrue (are_aggregates_of array.now.schema.attributes aggs.now) }
     requires same { target.now.dimensions ≡ array.now.schema.dimensions }
@@ -216,7 +211,7 @@ fn window_parts<R: Threads + Sync, G: Gate>(
     over_pieces(crew, pieces, &of)
 }
 
-/// The windows of an array that is not broken, chunk by chunk.
+/// The windows of an array that is not broken, chunk by chunk. More cells than can be counted are as good as no memory.
 #[tactic(auto, using(array_geom::proofs::MarginLaws::overlap_each, array_geom::proofs::MarginLaws::overlap_places))]
 pub(crate) fn by_parts<R: Threads + Sync, G: Gate>(
     crew: &mut Crew<'_, R, G>,
@@ -231,12 +226,12 @@ pub(crate) fn by_parts<R: Threads + Sync, G: Gate>(
     requires valid { IsValid target.now }
     requires reach { IsTrue (are_windows_of array.schema reach.now) }
     requires typed { IsTrue (are_aggregates_of array.schema.attributes aggs.now) }
-    requires few { (dims : Items Dimension) (margins : Items ℕ) → length (core_rows dims margins array.chunks) < 2 ^ 63 }
-    requires rise { NumbersRise (numbers array.chunks) }
-    requires sized { AllByRecursion (λ k. length k ≡ length array.schema.dimensions) (numbers array.chunks) }
     ensures array { IfOk result (λ made. Is made (window_meant reach.now aggs.now (meant_by_cores array))) }
     ensures margins { IfOk result (λ made. made.margins.items ≡ overlaps target.now.dimensions) }
 {
+    if !are_few(array.chunks.as_slice()) {
+        return Err(Memory);
+    }
     let margins = margins_of(target);
     let parts = window_parts(crew, &array, reach, aggs, target, &margins)?;
     array_of_parts(target, &margins, parts)

@@ -232,7 +232,8 @@ pub(crate) fn chunk_of_windows(
     let all = found.as_slice();
     for k in 0..all.len() {
         push_centre(
-            &mut made, target, &all[k], all, area, reach, aggs, columns, offsets, grid, shape, origin,
+            &mut made, target, &all[k], all, area, reach, aggs, columns, offsets, grid, shape,
+            origin,
         )?;
     }
     Ok(made)

@@ -40,10 +40,10 @@ returns-else-is_in_box-clause-stretch c =
     let at = c.place-at.ensures in
     let core = is_inside c.args.core.now (place_of c.args.source.now c.args.position) in
     let out : in_both c.args.source.now c.args.core.now c.args.area.now c.args.position ≡ false = elim c.else-is_in_box.branch [
-      else-is_in_box-via-then-is_in_box+else-is_in_box-2 w ↦
-        out_second core _ (ap (is_inside c.args.area.now) (sym at) ∙ sym w.is_in_box-then-is_in_box.ensures ∙ w.if-is_in_box-2.false)
+      | else-is_in_box-via-then-is_in_box+else-is_in_box-2 w ↦
+          out_second core _ (ap (is_inside c.args.area.now) (sym at) ∙ sym w.is_in_box-then-is_in_box.ensures ∙ w.if-is_in_box-2.false)
       | else-is_in_box-via-else-is_in_box w ↦
-        ap (λ (t : Bool). t && is_inside c.args.area.now (place_of c.args.source.now c.args.position)) (ap (is_inside c.args.core.now) (sym at) ∙ sym c.is_in_box.ensures ∙ w.if-is_in_box.false)
+          ap (λ (t : Bool). t && is_inside c.args.area.now (place_of c.args.source.now c.args.position)) (ap (is_inside c.args.core.now) (sym at) ∙ sym c.is_in_box.ensures ∙ w.if-is_in_box.false)
     ] in
     stretch_is c.args.source.now c.args.target.now c.args.core.now c.args.area.now c.args.position c.room_after-room.result c.steps_along-in_core.result c.steps_along-steps.result 0 false
     c.requires.source c.requires.target c.requires.held c.requires.place
