@@ -1,5 +1,5 @@
 //! What the last operator of a plan makes of the arrays of its sources.
-ghost use Rattle.std.specs.Prelude.{◌≡◌, [], ◌∷◌, Err, IfOk};
+ghost use Rattle.std.specs.Prelude.{◌≡◌, [], ◌∷◌, IfOk};
 ghost use Rattle.logical_plan.specs.Arity.{binary_query, unary_query};
 ghost use Rattle.chunk_exec.specs.Inner.Operated.{CanOperate, IsResultOf};
 
@@ -15,13 +15,8 @@ use redimension_exec::redimension;
 use std::alloc::Global;
 use std::thread::Threads;
 
-// `sort`, `rank`, `cumulate`, `transpose`, `reverse`, `unpack`, `xgrid`, `merge` and `concat` are not computed yet. No statement is
-// checked into a plan of one of them, since checking knows none of their names: so this is answered to nobody.
-fn not_computed() -> Result<ChunkedArray, Memory>
-    ensures { result ≡ Err Memory }
-{
-    Err(Memory)
-}
+// `sort`, `rank`, `cumulate`, `transpose`, `reverse`, `unpack`, `xgrid`, `merge` and `concat` are not computed yet: want of memory
+// is answered. No statement is checked into a plan of one of them, since checking knows none of their names.
 
 /// The array of a plan of one source.
 pub(crate) fn of_one<R: Threads + Sync, G: Gate>(
@@ -53,7 +48,7 @@ pub(crate) fn of_one<R: Threads + Sync, G: Gate>(
         | UnaryNode::Transpose
         | UnaryNode::Reverse
         | UnaryNode::Unpack(_)
-        | UnaryNode::Xgrid(_) => not_computed(),
+        | UnaryNode::Xgrid(_) => Err(Memory),
     }
 }
 
@@ -74,6 +69,6 @@ pub(crate) fn of_two<R: Threads + Sync, G: Gate>(
     match node {
         BinaryNode::Join(schema) => join(crew, a, b, schema),
         BinaryNode::CrossJoin(pairs, schema) => cross_join(a, b, pairs.as_slice(), schema),
-        BinaryNode::Merge | BinaryNode::Concat => not_computed(),
+        BinaryNode::Merge | BinaryNode::Concat => Err(Memory),
     }
 }

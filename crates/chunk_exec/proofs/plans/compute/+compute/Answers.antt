@@ -94,13 +94,13 @@ over_one-returns-clause-next g t c =
     c.in_ok-array.ensures.next
     ∙ ap (λ (z : List Leaf). c.args.next.now + length z) (sym (leaves_of_one c.args.plan.now c.args.from.now (one_source c.args.plan.now c.args.from.now c.args.node c.requires.node)))
 
-pub over_one-of_one-requires-after_bounds : goal.over_one-of_one-requires-after_bounds
-over_one-of_one-requires-after_bounds g t c κs within =
+pub over_one-of_one-requires-clause-can : goal.over_one-of_one-requires-clause-can
+over_one-of_one-requires-clause-can g t c κs within =
     let made = c.in_ok-array.ensures.computed in
     can_operate_one c.args.plan.now c.args.from.now c.in_ok-array.array (one_source c.args.plan.now c.args.from.now c.args.node c.requires.node) c.requires.can.typed made.schema_is made.cells
 
-pub over_two-of_two-requires-after_bounds : goal.over_two-of_two-requires-after_bounds
-over_two-of_two-requires-after_bounds g t c κs within =
+pub over_two-of_two-requires-clause-can : goal.over_two-of_two-requires-clause-can
+over_two-of_two-requires-clause-can g t c κs within =
     let left = c.in_ok-a.ensures.computed in
     let right = c.in_ok-b.ensures.computed in
     can_operate_two c.args.plan.now c.args.left.now c.args.right.now c.in_ok-a.a c.in_ok-b.b (two_sources c.args.plan.now c.args.left.now c.args.right.now c.args.node c.requires.node) c.requires.can.typed left.schema_is

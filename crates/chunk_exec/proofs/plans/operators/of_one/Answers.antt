@@ -101,7 +101,7 @@ returns-in-Redimension g c =
     let is : c.args.plan.now ≡ query = c.requires.node ∙ ap (λ (n : UnaryNode). unary_query n c.args.from.now) c.in-Redimension.is in
     subst (λ (z : Query). IfOk c.redimension.result (IsResultOf z (array ∷ []))) (sym is)
     (if_ok (λ made. Is made (redimensioned_from schema aggs (meant_by_cores array))) (IsResultOf query (array ∷ [])) c.redimension.result (redimension_result source schema aggs array)
-    (subst (λ (z : List Aggregate). IfOk c.redimension.result (λ made. Is made (redimensioned_from schema z (meant_by_cores array)))) c.as_slice.ensures c.redimension.ensures.array))
+    (subst (λ (z : List Aggregate). IfOk c.redimension.result (λ made. Is made (redimensioned_from schema z (meant_by_cores array)))) c.as_slice-in-Redimension.ensures c.redimension.ensures.array))
 
 pub returns-in-Regrid : goal.returns-in-Regrid
 returns-in-Regrid g c =
