@@ -1,2 +1,3 @@
+pub mod CallHistory
 pub mod Overlay
 pub mod Records

@@ -5,7 +5,6 @@ pub mod Images
 pub mod InMemory
 pub mod Inner
 pub mod Lemmas
-pub mod Plain
 pub mod Shelf
 pub mod Sink
 pub mod Source

@@ -13,8 +13,7 @@ pub use counts::has_risen;
 pub use disk::Disk;
 pub use gate::{Gate, OpenGate, Point};
 pub use in_memory::{
-    DeviceCall, MemDisk, MemFile, MemShelf, MemSink, MemSource, PlainDisk, SureDisk, SureSink,
-    SureSource,
+    DeviceCall, MemDisk, MemFile, MemShelf, MemSink, MemSource, SureDisk, SureSink, SureSource,
 };
 pub use shelf::Shelf;
 pub use sink::Sink;

@@ -11,7 +11,4 @@ pub use laws::{
     checking_reads_names, created_places_are_names, parsed_leaves_fit,
 };
 pub use queries::{Call, OverSource, OverTwo, query_plan};
-pub use types::{
-    Target, Typed, array_call, check, create_array, cut_call, insert_call, let_go_typed, list_call,
-    store_call,
-};
+pub use types::{Target, Typed, array_call, check, create_array, cut_call, list_call};

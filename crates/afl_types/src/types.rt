@@ -3,5 +3,5 @@
 mod changes;
 mod statements;
 
-pub use changes::{Target, array_call, create_array, cut_call, insert_call, list_call, store_call};
-pub use statements::{Typed, check, let_go_typed};
+pub use changes::{Target, array_call, create_array, cut_call, list_call};
+pub use statements::{Typed, check};

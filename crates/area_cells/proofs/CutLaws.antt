@@ -17,7 +17,7 @@ use Rattle.array_rows.proofs.RowSets.{IsRising-put_all, IsRising-rows_where, cel
 use Rattle.array_rows.specs.Rows.{cell_at}
 use Rattle.array_rows.proofs.RowsLemmas.{same_rows}
 use Rattle.array_geom.specs.declared.chunk.Chunk.{Chunk}
-use Rattle.array_geom.specs.Geometry.{HasFrame, core, has_core}
+use Rattle.array_geom.specs.Geometry.{ChunkNumber, HasFrame, core, has_core}
 use Rattle.array_geom.specs.Link.{NumbersRise, chunk_rows, core_rows, number_order, numbers}
 use Rattle.array_parts.specs.Made.{IsMadeBy}
 use Rattle.array_parts.specs.Placed.{HasPlaces}
@@ -133,6 +133,17 @@ pub all_drop : {A : Type 0} (P : A → Type 0) (n : ℕ) (xs : List A) → AllBy
 all_drop P zero xs a = a
 all_drop P (suc n) [] a = tt
 all_drop P (suc n) (x ∷ xs) a = all_drop P n xs a.1
+
+-- what holds of the numbers of chunks
+pub numbers_take : (P : ChunkNumber → Type 0) (n : ℕ) (chunks : List Chunk) → AllByRecursion P (numbers chunks) → AllByRecursion P (numbers (take n chunks))
+numbers_take P zero chunks a = tt
+numbers_take P (suc n) [] a = tt
+numbers_take P (suc n) (chunk ∷ chunks) a = (a.0, numbers_take P n chunks a.1)
+
+pub numbers_drop : (P : ChunkNumber → Type 0) (n : ℕ) (chunks : List Chunk) → AllByRecursion P (numbers chunks) → AllByRecursion P (numbers (drop n chunks))
+numbers_drop P zero chunks a = a
+numbers_drop P (suc n) [] a = tt
+numbers_drop P (suc n) (chunk ∷ chunks) a = numbers_drop P n chunks a.1
 
 pub rise_take : (n : ℕ) (chunks : List Chunk) → NumbersRise (numbers chunks) → NumbersRise (numbers (take n chunks))
 rise_take zero chunks r = tt

@@ -5,6 +5,8 @@ pub mod BandLaws
 pub mod CountLaws
 pub mod CutLaws
 pub mod FillLaws
+pub mod FoundLaws
 pub mod ListedLaws
 pub mod PieceLaws
-pub mod RisingLaws
+pub mod StretchLaws
+pub mod TakingLaws

@@ -22,7 +22,7 @@ use Rattle.array_parts.specs.Cores.{HaveCells}
 use Rattle.array_parts.specs.Placed.{HasPlaces, HavePlaces}
 use Rattle.chunk_cells.specs.Whole.{CoresRise}
 use Rattle.area_cells.specs.Pieces.{IsPartAt}
-use Rattle.area_cells.proofs.CutLaws.{all_drop, all_take}
+use Rattle.area_cells.proofs.CutLaws.{all_drop, all_take, numbers_drop, numbers_take, rise_drop, rise_take}
 
 pub all_within : (area : Bounds) (rows made : List Row) → made ≡ within area rows → AllByRecursion (λ row. is_inside area row.at.items ≡ true) made
 all_within area rows made e = subst (AllByRecursion (λ row. is_inside area row.at.items ≡ true)) (sym e) (each rows)
@@ -89,15 +89,30 @@ parts_each schema margins rows (k ∷ at) (part ∷ parts) h = (h.0.part, parts_
 
 -- ---- parts of chunks
 
+pub rise_in_any : (schema : Schema) (margins : List ℕ) (chunks : List Chunk) → AllByRecursion (λ chunk. AreRowsOf schema (chunk_rows schema.dimensions margins chunk)) chunks → CoresRise schema.dimensions margins chunks
+rise_in_any schema margins [] a = tt
+rise_in_any schema margins (chunk ∷ chunks) a =
+    (IsRising-rows_where (is_inside (core schema.dimensions chunk.at.items)) (chunk_rows schema.dimensions margins chunk) a.0.are_rows.rising, rise_in_any schema margins chunks a.1)
+
 pub rise_in_cores : (schema : Schema) (margins : List ℕ) (chunks : List Chunk) → HaveCells schema margins chunks → CoresRise schema.dimensions margins chunks
-rise_in_cores schema margins chunks h = each chunks h.rows_of
-  where
-    each : (xs : List Chunk) → AllByRecursion (λ chunk. AreRowsOf schema (chunk_rows schema.dimensions margins chunk)) xs → CoresRise schema.dimensions margins xs
-    each [] a = tt
-    each (chunk ∷ xs) a = (IsRising-rows_where (is_inside (core schema.dimensions chunk.at.items)) (chunk_rows schema.dimensions margins chunk) a.0.are_rows.rising, each xs a.1)
+rise_in_cores schema margins chunks h = rise_in_any schema margins chunks h.rows_of
 
 pub places_take : (schema : Schema) (margins : List ℕ) (n : ℕ) (chunks some : List Chunk) → some ≡ take n chunks → HavePlaces schema margins chunks → HavePlaces schema margins some
-places_take schema margins n chunks some e h = record { valid = h.valid; each = h.each; places = h.places; all = subst (AllByRecursion (HasPlaces schema margins)) (sym e) (all_take (HasPlaces schema margins) n chunks h.all) }
+places_take schema margins n chunks some e h = subst (HavePlaces schema margins) (sym e) (record {
+  valid = h.valid;
+  each = h.each;
+  places = h.places;
+  rising = rise_take n chunks h.rising;
+  sized = numbers_take (λ k. length k ≡ length schema.dimensions) n chunks h.sized;
+  all = all_take (HasPlaces schema margins) n chunks h.all;
+})
 
 pub places_drop : (schema : Schema) (margins : List ℕ) (n : ℕ) (chunks some : List Chunk) → some ≡ drop n chunks → HavePlaces schema margins chunks → HavePlaces schema margins some
-places_drop schema margins n chunks some e h = record { valid = h.valid; each = h.each; places = h.places; all = subst (AllByRecursion (HasPlaces schema margins)) (sym e) (all_drop (HasPlaces schema margins) n chunks h.all) }
+places_drop schema margins n chunks some e h = subst (HavePlaces schema margins) (sym e) (record {
+  valid = h.valid;
+  each = h.each;
+  places = h.places;
+  rising = rise_drop n chunks h.rising;
+  sized = numbers_drop (λ k. length k ≡ length schema.dimensions) n chunks h.sized;
+  all = all_drop (HasPlaces schema margins) n chunks h.all;
+})

@@ -1,4 +1,5 @@
 pub use Rattle.chunk_cells.specs.Whole
 pub mod Cut
+pub mod Found
 pub mod Inner
 pub mod Pieces

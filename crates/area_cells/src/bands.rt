@@ -60,11 +60,10 @@ fn begins_band(chunks: &[Chunk], at: usize) -> bool
 /// Where a band begins in the midst of chunks, as near to their middle as there is one; their number, where all are in one band.
 /// All rows of those before come before those of the others.
 pub fn half_of_bands(schema: &Schema, chunks: &[Chunk]) -> usize
-    requires some { 0 < length chunks.now }
     requires valid { IsValid schema.now }
     requires cores { AllByRecursion (λ chunk. IsTrue (has_core schema.now.dimensions chunk.at.items)) chunks.now }
     requires rise { NumbersRise (numbers chunks.now) }
-    ensures some { 0 < result }
+    ensures some { 0 < length chunks.now → 0 < result }
     ensures within { result ≤ length chunks.now }
     ensures rows { (margins : Items ℕ) → core_rows schema.now.dimensions margins chunks.now ≡ core_rows schema.now.dimensions margins
         (take result chunks.now) ++ core_rows schema.now.dimensions margins (drop result chunks.now) }

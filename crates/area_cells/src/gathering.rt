@@ -17,7 +17,7 @@ use cell_values::{Bounds, ChunkAt, List, Margins, Memory, Row, Schema, copy_numb
 use chunk_cells::into_core_rows;
 
 /// Whether no low number is above its high one.
-fn are_ordered(lo: &[i64], hi: &[i64]) -> bool
+pub(crate) fn are_ordered(lo: &[i64], hi: &[i64]) -> bool
     ensures { result ≡ are_ordered lo.now hi.now }
 {
     match lo {
@@ -57,7 +57,7 @@ fn lies_off(schema: &Schema, first: &ChunkAt, last: &ChunkAt, area: &Bounds) -> 
 }
 
 /// Whether a box lies behind the cores of chunks or before them.
-fn lie_off(schema: &Schema, chunks: &[Chunk], area: &Bounds) -> bool
+pub(crate) fn lie_off(schema: &Schema, chunks: &[Chunk], area: &Bounds) -> bool
     requires some { 0 < length chunks.now }
     requires places { AllByRecursion (λ chunk. IsTrue (has_core schema.now.dimensions chunk.at.items)) chunks.now }
     requires valid { IsValid schema.now }
@@ -116,7 +116,7 @@ fn push_cuts(
     push_cuts(cuts, schema, margins, back, area)
 }
 
-/// Copies of the rows of an array's cores that lie in a box, from chunks whose numbers rise.
+/// Copies of the rows of an array's cores that lie in a box.
 pub fn rows_in_area(
     schema: &Schema,
     margins: &Margins,
@@ -125,7 +125,6 @@ pub fn rows_in_area(
 ) -> Result<List<Row>, Memory>
     requires places { HavePlaces schema.now margins.now.items chunks.now }
     requires cores { CoresRise schema.now.dimensions margins.now.items chunks.now }
-    requires rise { NumbersRise (numbers chunks.now) }
     ensures { IfOk result (λ rows. rows ≡ within area.now (core_rows schema.now.dimensions margins.now.items chunks.now)) }
 {
     let mut cuts = schema.dimensions.another();

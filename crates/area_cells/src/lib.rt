@@ -4,16 +4,18 @@
 mod bands;
 mod counting;
 mod cutting;
+mod finding;
 mod framing;
 mod gathering;
+mod merging;
 mod numbering;
-mod rising;
+mod stretches;
 
 pub use bands::{count_in_band, half_of_bands, rows_of_chunks};
 pub use chunk_cells::{assemble, broken_array, into_core_rows};
 pub use counting::are_few;
 pub use cutting::cut_chunk;
+pub use finding::{Found, found_in};
 pub use framing::{array_of_parts, chunk_of_rows};
 pub use gathering::rows_in_area;
 pub use numbering::numbers_of;
-pub use rising::are_rising;

@@ -11,6 +11,7 @@ use Rattle.cell_values.specs.declared.schema.Bounds.{Bounds}
 use Rattle.cell_values.specs.declared.schema.Dimension.{Dimension}
 use Rattle.cell_values.specs.declared.schema.Schema.{Schema}
 use Rattle.cell_values.specs.Cells.{IsCellOf}
+use Rattle.cell_values.specs.Schemas.{IsValid}
 use Rattle.array_geom.specs.Arrays.{AreRowsOf}
 use Rattle.array_geom.specs.Boxes.{is_inside, bounds_of, within}
 use Rattle.array_geom.specs.Rows.{IsRising, put_all, put_by, put_row, row_major}
@@ -54,12 +55,14 @@ each_follows : (P Q : Chunk → Type 0) (chunks : List Chunk) → ((chunk : Chun
 each_follows P Q [] h a = tt
 each_follows P Q (chunk ∷ chunks) h a = (h chunk a.0, each_follows P Q chunks h a.1)
 
-pub cores_are_rows : CoresAreRows
-cores_are_rows schema margins chunks h =
+-- the same of chunks in whatever order
+pub cores_of_any : (schema : Schema) (margins : List ℕ) (chunks : List Chunk) → IsValid schema → AllByRecursion (λ chunk. AreRowsOf schema (chunk_rows schema.dimensions margins chunk)) chunks
+    → AreRowsOf schema (core_rows schema.dimensions margins chunks)
+cores_of_any schema margins chunks valid rows_of =
     let dims = schema.dimensions in
-    let each = λ (Q : Chunk → Type 0) (f : (chunk : Chunk) → AreRowsOf schema (chunk_rows dims margins chunk) → Q chunk). each_follows (λ chunk. AreRowsOf schema (chunk_rows dims margins chunk)) Q chunks f h.rows_of in
+    let each = λ (Q : Chunk → Type 0) (f : (chunk : Chunk) → AreRowsOf schema (chunk_rows dims margins chunk) → Q chunk). each_follows (λ chunk. AreRowsOf schema (chunk_rows dims margins chunk)) Q chunks f rows_of in
     record {
-      valid = h.placed.valid;
+      valid = valid;
       are_rows = record {
         rising = cores_rise dims margins chunks;
         in_bounds = all_cores (λ row. IsTrue (is_inside (bounds_of dims) row.at.items)) dims margins chunks
@@ -68,6 +71,9 @@ cores_are_rows schema margins chunks h =
       kinds = all_cores (λ row. IsCellOf schema.attributes row.cell) dims margins chunks
           (each (λ chunk. AllByRecursion (λ (row : Row). IsCellOf schema.attributes row.cell) (chunk_rows dims margins chunk)) (λ chunk are. are.kinds));
     }
+
+pub cores_are_rows : CoresAreRows
+cores_are_rows schema margins chunks h = cores_of_any schema margins chunks h.placed.valid h.rows_of
 
 -- ---- arrays
 

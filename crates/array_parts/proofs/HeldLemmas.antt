@@ -13,11 +13,11 @@ use Rattle.array_geom.specs.Boxes.{is_inside, within}
 use Rattle.array_geom.specs.Rows.{placed}
 use Rattle.array_geom.specs.declared.chunk.Chunk.{Chunk}
 use Rattle.array_geom.specs.Geometry.{HasFrame, coordinate_in, core, frame_low, frame_lengths}
-use Rattle.array_geom.specs.Link.{rows_in, is_not_empty, AreChunksOf}
+use Rattle.array_geom.specs.Link.{rows_in, is_not_empty, AreChunksOf, NumbersRise}
 use Rattle.array_parts.specs.Made.{IsMadeBy}
 use Rattle.array_parts.specs.Parts.{AreParts, holds_cell}
 use Rattle.array_parts.specs.Placed.{HasPlaces, HavePlaces}
-use Rattle.array_parts.proofs.PartLemmas.{all_kept, held_are_chunks}
+use Rattle.array_parts.proofs.PartLemmas.{all_kept, held_are_chunks, numbers_passed, rising_passed, same_numbers}
 
 held_in : (area : Bounds) (low : List ℤ) (lengths positions : List ℕ) (cells : List Cell) → length cells ≡ length positions
     → list_any (λ p. is_inside area (coordinate_in low lengths p)) positions ≡ is_not_empty (within area (rows_in low lengths positions cells))
@@ -50,6 +50,8 @@ places_kept schema margins chunks (Ok kept) h k = subst (HavePlaces schema margi
   valid = h.valid;
   each = h.each;
   places = h.places;
+  rising = rising_passed (holds_cell schema.dimensions margins) chunks h.rising;
+  sized = numbers_passed (λ k. length k ≡ length schema.dimensions) (holds_cell schema.dimensions margins) chunks h.sized;
   all = all_kept (HasPlaces schema margins) (holds_cell schema.dimensions margins) chunks h.all;
 })
 
@@ -71,4 +73,13 @@ all_made operator schema margins (o ∷ old) (n ∷ new) h a =
     (record { framed = subst (λ k. HasFrame schema margins k.items) (sym a.0.number) h.0.framed; placed = a.0.placed }, all_made operator schema margins old new h.1 a.1)
 
 pub places_made : (operator : List Row → List Row) (schema : Schema) (margins : List ℕ) (old new : List Chunk) → HavePlaces schema margins old → AllZip (IsMadeBy operator schema.dimensions margins) old new → HavePlaces schema margins new
-places_made operator schema margins old new h a = record { valid = h.valid; each = h.each; places = h.places; all = all_made operator schema margins old new h.all a }
+places_made operator schema margins old new h a =
+    let same = same_numbers operator schema.dimensions margins old new a in
+    record {
+      valid = h.valid;
+      each = h.each;
+      places = h.places;
+      rising = subst NumbersRise (sym same) h.rising;
+      sized = subst (AllByRecursion (λ k. length k ≡ length schema.dimensions)) (sym same) h.sized;
+      all = all_made operator schema margins old new h.all a;
+    }

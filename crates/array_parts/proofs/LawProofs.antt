@@ -59,7 +59,14 @@ pub held_rows_placed : (schema : Schema) (array : ChunkedArray) (rows : List Row
 held_rows_placed schema array rows h =
     let near = (valid_placed schema h.rows_of.valid).near in
     let there = all_there schema.dimensions rows (numbers array.chunks) (numbers array.chunks) near h.rows_of.are_rows h.chunks.listed h.chunks.sized (each_listed (numbers array.chunks)) in
-    record { valid = h.rows_of.valid; each = h.each; places = h.places; all = placed schema array.margins.items rows array.chunks h.rows_of.valid h.each h.places there h.chunks.parts }
+    record {
+      valid = h.rows_of.valid;
+      each = h.each;
+      places = h.places;
+      rising = h.chunks.in_order;
+      sized = h.chunks.sized;
+      all = placed schema array.margins.items rows array.chunks h.rows_of.valid h.each h.places there h.chunks.parts;
+    }
 
 pub arrays_are_sound : ArraysAreSound
 arrays_are_sound array meant is whole = cases meant.rows is.cells

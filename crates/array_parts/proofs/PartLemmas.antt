@@ -29,12 +29,30 @@ all_kept P p (x ∷ xs) a = keep (p x) (all_kept P p xs a.1)
     keep true r = (a.0, r)
     keep false r = r
 
+-- what holds of the numbers of chunks holds of those that pass
+pub numbers_passed : (P : ChunkNumber → Type 0) (p : Chunk → Bool) (chunks : List Chunk) → AllByRecursion P (numbers chunks) → AllByRecursion P (numbers (filter p chunks))
+numbers_passed P p [] a = tt
+numbers_passed P p (chunk ∷ chunks) a = keep (p chunk) (numbers_passed P p chunks a.1)
+  where
+    keep : (b : Bool) → AllByRecursion P (numbers (filter p chunks)) → AllByRecursion P (numbers (cond b (chunk ∷ filter p chunks) (filter p chunks)))
+    keep true r = (a.0, r)
+    keep false r = r
+
 rising_kept : (p : ChunkNumber → Bool) (ks : List ChunkNumber) → NumbersRise ks → NumbersRise (filter p ks)
 rising_kept p [] a = tt
 rising_kept p (k ∷ ks) a = keep (p k) (rising_kept p ks a.1)
   where
     keep : (b : Bool) → NumbersRise (filter p ks) → NumbersRise (cond b (k ∷ filter p ks) (filter p ks))
     keep true r = (all_kept (λ later. number_order k later ≡ Less) p ks a.0, r)
+    keep false r = r
+
+-- the numbers of the chunks that pass
+pub rising_passed : (p : Chunk → Bool) (chunks : List Chunk) → NumbersRise (numbers chunks) → NumbersRise (numbers (filter p chunks))
+rising_passed p [] a = tt
+rising_passed p (chunk ∷ chunks) a = keep (p chunk) (rising_passed p chunks a.1)
+  where
+    keep : (b : Bool) → NumbersRise (numbers (filter p chunks)) → NumbersRise (numbers (cond b (chunk ∷ filter p chunks) (filter p chunks)))
+    keep true r = (numbers_passed (λ later. number_order chunk.at.items later ≡ Less) p chunks a.0, r)
     keep false r = r
 
 -- a test that two equal elements pass alike, in a search through what passes
@@ -123,7 +141,7 @@ made_part operator dims margins rows old new local made part = record {
   cells = made.rows ∙ ap operator part.cells ∙ sym (local.boxes (frame dims margins old.at.items) rows) ∙ ap (λ k. within (frame dims margins k.items) (operator rows)) (sym made.number);
 }
 
-same_numbers : (operator : List Row → List Row) (dims : List Dimension) (margins : List ℕ) (old new : List Chunk) → AllZip (IsMadeBy operator dims margins) old new → numbers new ≡ numbers old
+pub same_numbers : (operator : List Row → List Row) (dims : List Dimension) (margins : List ℕ) (old new : List Chunk) → AllZip (IsMadeBy operator dims margins) old new → numbers new ≡ numbers old
 same_numbers operator dims margins [] [] a = refl
 same_numbers operator dims margins [] (n ∷ new) a = absurd a
 same_numbers operator dims margins (o ∷ old) [] a = absurd a

@@ -103,7 +103,7 @@ valid_rows schema margins chunk is =
       kinds = all_cells (IsCellOf schema.attributes) low lengths chunk.positions chunk.cells is.cells;
     }
 
-all_valid : (schema : Schema) (margins : List ℕ) (chunks : List Chunk) → AllByRecursion (IsChunk schema margins) chunks → AllByRecursion (λ chunk. AreRowsOf schema (chunk_rows schema.dimensions margins chunk)) chunks
+pub all_valid : (schema : Schema) (margins : List ℕ) (chunks : List Chunk) → AllByRecursion (IsChunk schema margins) chunks → AllByRecursion (λ chunk. AreRowsOf schema (chunk_rows schema.dimensions margins chunk)) chunks
 all_valid schema margins [] a = tt
 all_valid schema margins (chunk ∷ chunks) a = (valid_rows schema margins chunk a.0, all_valid schema margins chunks a.1)
 

@@ -1,6 +1,6 @@
 -- Rows in columns to which values are added.
 use Rattle.std.proofs.Common.{◌≡◌, ℕ, zero, suc, ◌+◌, ◌<◌, ◌≤◌, List, [], ◌∷◌, ◌++◌, length, get_or, set, take, refl, sym, ap, ◌∙◌, subst, arith, add-one, ◌⊎◌, inl, inr, Result, Ok, Err, IfOk}
-use Rattle.std.proofs.lemmas.List.{get_or_append_left, get_or_push}
+use Rattle.std.proofs.lemmas.List.{get_or_append_left, get_or_push, length-append, length-map}
 use Rattle.std.proofs.lemmas.Bool.{cases_lt}
 use Rattle.cell_values.specs.declared.memory.Memory.{Memory}
 use Rattle.std.specs.Prelude.{slice_index_or, OnOk}
@@ -124,3 +124,28 @@ first_pushed cs ds v w same e = push_step cs cs ds (v ∷ []) 0 w (omega arith) 
 pub on_ok : {X E : Type 0} {P Q : Type 0} (r : Result X E) → (P → Q) → OnOk r P → OnOk r Q
 on_ok (Ok x) f p = f p
 on_ok (Err e) f p = p
+
+-- places of two lists of columns, one behind the other
+pub both_long : (a b : List (List Datum)) (i j : ℕ) → length (row_at i a ++ row_at j b) ≡ length a + length b
+both_long a b i j = length-append (row_at i a) (row_at j b) ∙ (λ t. length-map a (λ (c : List Datum). get_or c i Null) t + length-map b (λ (c : List Datum). get_or c j Null) t)
+
+pub read_left : (a b : List (List Datum)) (i j k : ℕ) (c : List Datum) (v : Datum) → k < length a → c ≡ get_or a k c → v ≡ get_or c i Null → v ≡ get_or (row_at i a ++ row_at j b) k Null
+read_left [] b i j k c v l e f = absurd (omega (arith, l))
+read_left (d ∷ a) b i j zero c v l e f = f ∙ ap (λ (x : List Datum). get_or x i Null) e
+read_left (d ∷ a) b i j (suc k) c v l e f = read_left a b i j k c v (omega (arith, l)) e f
+
+none_behind : (k : ℕ) → k ≡ 0 + k
+none_behind k = omega arith
+
+one_behind : (n k : ℕ) → suc (n + k) ≡ suc n + k
+one_behind n k = omega arith
+
+pub read_right : (a b : List (List Datum)) (i j k : ℕ) (c : List Datum) (v : Datum) → k < length b → c ≡ get_or b k c → v ≡ get_or c j Null → v ≡ get_or (row_at i a ++ row_at j b) (length a + k) Null
+read_right [] b i j k c v l e f = place_read b k j c v l e f ∙ ap (λ (n : ℕ). get_or (row_at j b) n Null) (none_behind k)
+read_right (d ∷ a) b i j k c v l e f = read_right a b i j k c v l e f ∙ ap (λ (n : ℕ). get_or (row_at i (d ∷ a) ++ row_at j b) n Null) (one_behind (length a) k)
+
+pub push_further : (cs now then : List (List Datum)) (vs : List Datum) (n k : ℕ) (v : Datum) → n + k < length vs → v ≡ get_or vs (n + k) Null → now ≡ pushed cs (take (n + k) vs) → then ≡ set now (n + k) (get_or now (n + k) [] ++ v ∷ []) → then ≡ pushed cs (take (n + (k + 1)) vs)
+push_further cs now then vs n k v l e f g = push_step cs now then vs (n + k) v l e f g ∙ ap (λ (m : ℕ). pushed cs (take m vs)) (further n k)
+  where
+    further : (n k : ℕ) → n + k + 1 ≡ n + (k + 1)
+    further n k = omega arith

@@ -1,5 +1,5 @@
 //! Coordinates of cells and chunks, and the order of cells.
-ghost use Rattle.std.specs.Prelude.{◌≡◌, ◌≤◌, ◌↔◌, pos, length, slice_index_or, IsTrue, IsOk, IfOk};
+ghost use Rattle.std.specs.Prelude.{◌≡◌, ◌≤◌, pos, length, slice_index_or, IsOk, IfOk};
 ghost use Rattle.std.specs.Ordering.{nat_cmp};
 ghost use Rattle.std.specs.Cmp.Lexicographic.{slice_cmp};
 ghost use Rattle.cell_values.specs.RowMajor.{row_order};
@@ -39,22 +39,6 @@ pub fn number_at(at: &Coord, place: usize) -> i64
         Some(number) => *number,
         None => 0,
     }
-}
-
-/// Whether two coordinates are the same.
-#[tactic(auto, using(crate::proofs::Places::equal_coords))]
-pub fn same_place(a: &Coord, b: &Coord) -> bool
-    ensures { IsTrue result ↔ (a.now ≡ b.now) }
-{
-    a.as_slice() == b.as_slice()
-}
-
-/// Whether two numbers of chunks, or two margins, are the same.
-#[tactic(auto, using(crate::proofs::Places::equal_numbers))]
-pub fn same_numbers(a: &ChunkAt, b: &ChunkAt) -> bool
-    ensures { IsTrue result ↔ (a.now ≡ b.now) }
-{
-    a.as_slice() == b.as_slice()
 }
 
 /// The coordinate of these numbers.

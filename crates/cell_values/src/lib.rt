@@ -13,7 +13,7 @@ pub mod table;
 
 pub use coord::{
     ChunkAt, Coord, Margins, compare_numbers, coord_of, copy_coord, copy_numbers, number_at,
-    row_major, same_numbers, same_place,
+    row_major,
 };
 pub use datum::{Broken, Cell, Code, CompareOp, Datum, FaultKind, Row};
 pub use limits::{

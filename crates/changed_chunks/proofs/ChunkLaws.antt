@@ -25,7 +25,7 @@ use Rattle.array_geom.specs.Geometry.{ChunkNumber, core, frame_low, frame_length
 use Rattle.array_geom.specs.Link.{NumbersRise, chunk_rows, core_rows, is_listed, number_order, numbers, rows_in}
 use Rattle.array_geom.proofs.NumberLaws.{is_equal, same_number}
 use Rattle.array_parts.proofs.PartLemmas.{all_kept}
-use Rattle.array_parts.proofs.PlaceRows.{valid_chunks_have_cells}
+use Rattle.array_parts.proofs.PlaceRows.{all_valid}
 use Rattle.chunk_rle.specs.Stored.{IsStored, IsStoredCell, is_stored}
 use Rattle.logical_plan.specs.declared.parts.Leaf.{Leaf}
 use Rattle.logical_plan.specs.Typing.{AreSound, is_sound, may_all_stand, may_stand}
@@ -33,7 +33,7 @@ use Rattle.plan_changes.proofs.NamesOf.{map_filter}
 use Rattle.chunk_source.specs.Laws.{HasSoundCells}
 use Rattle.chunk_source.specs.Source.{IsStored as IsRead}
 use Rattle.chunk_source.specs.declared.reading.fault.ExecFault.{ExecFault}
-use Rattle.chunk_source.proofs.ReadingLeafLaws.{are_valid, have_places}
+use Rattle.chunk_source.proofs.ReadingLeafLaws.{are_valid, stored_placed}
 use Rattle.changed_chunks.specs.Inner.Input.{AreStoredChunks}
 
 -- ---- sound cells of a schema are those that are stored
@@ -108,7 +108,9 @@ are_stored : (schema : Schema) (listed : List (ArrayVec ℕ)) (chunks : List Chu
 are_stored schema listed chunks valid read =
     let margins = overlaps schema.dimensions in
     record {
-      cells = valid_chunks_have_cells schema margins chunks (have_places schema margins listed chunks refl valid read) (are_valid schema margins listed chunks refl read);
+      valid = valid;
+      placed = stored_placed schema listed chunks read;
+      rows_of = all_valid schema margins chunks (are_valid schema margins listed chunks refl read);
       sound = sound_read schema listed chunks read;
     }
 

@@ -25,7 +25,7 @@ use Rattle.array_geom.proofs.LinkLaws.{within-within}
 use Rattle.array_geom.proofs.NearLemmas.{valid_placed}
 use Rattle.array_geom.proofs.NumberLaws.{is_equal, same_number}
 use Rattle.array_geom.proofs.TestLaws.{and_both, and_parts}
-use Rattle.array_parts.proofs.CoreLaws.{cores_are_rows}
+use Rattle.array_parts.proofs.CoreLaws.{cores_of_any}
 use Rattle.array_parts.proofs.PartLemmas.{each_listed}
 use Rattle.std.specs.Option.{option_or}
 use Rattle.chunk_rle.specs.Stored.{IsStored}
@@ -140,7 +140,7 @@ module _ (leaf : Leaf) (input rows : List Row) (stored : List (ArrayVec ℕ)) (h
   same_frame are =
       let dims = leaf.schema.dimensions in
       let area = frame dims (overlaps dims) k in
-      let rising = (cores_are_rows leaf.schema (overlaps dims) chunks are.cells).are_rows.rising in
+      let rising = (cores_of_any leaf.schema (overlaps dims) chunks are.valid are.rows_of).are_rows.rising in
       same_rows (within area (stored_rows leaf.schema chunks)) (within area rows) (IsRising-rows_where (is_inside area) (stored_rows leaf.schema chunks) rising) (IsRising-rows_where (is_inside area) rows has.rows_of.are_rows.rising)
       (λ c. cell_at-within area (stored_rows leaf.schema chunks) c ∙ by_box c (is_inside area c) refl ∙ sym (cell_at-within area rows c))
     where

@@ -11,6 +11,7 @@ use Rattle.logical_plan.specs.Leaves.{leaves}
 use Rattle.logical_plan.specs.Meaning.{Database}
 use Rattle.logical_plan.specs.Query.{Query, built, listed, scanned, filtered, applied, projected, between, subarray}
 use Rattle.logical_plan.specs.Query.{sliced, joined, crossed, redimensioned, regridded, windowed, aggregated}
+use Rattle.logical_plan.specs.Query.{sorted, ranked, cumulated, transposed, reversed, unpacked, xgridded, merged, concatenated}
 use Rattle.logical_plan.specs.Typing.{IsTyped}
 use Rattle.chunk_source.specs.Source.{Keeps, Reads, SourceState, version_chunks}
 use Rattle.chunk_source.proofs.ReadLemmas.{keeps_on, keeps_still, reads_still}
@@ -46,6 +47,15 @@ valid_leaves (redimensioned source schema gs) typed = valid_leaves source typed.
 valid_leaves (regridded source sizes gs) typed = valid_leaves source typed.0
 valid_leaves (windowed source reach gs) typed = valid_leaves source typed.0
 valid_leaves (aggregated source gs places) typed = valid_leaves source typed.0
+valid_leaves (sorted source keys schema) typed = valid_leaves source typed.0
+valid_leaves (ranked source x dims) typed = valid_leaves source typed.0
+valid_leaves (cumulated source gs n) typed = valid_leaves source typed.0
+valid_leaves (transposed source) typed = valid_leaves source typed.0
+valid_leaves (reversed source) typed = valid_leaves source typed.0
+valid_leaves (unpacked source schema) typed = valid_leaves source typed.0
+valid_leaves (xgridded source sizes) typed = valid_leaves source typed.0
+valid_leaves (merged left right) typed = both_valid (leaves left) (leaves right) (valid_leaves left typed.0) (valid_leaves right typed.1)
+valid_leaves (concatenated left right) typed = both_valid (leaves left) (leaves right) (valid_leaves left typed.0) (valid_leaves right typed.1)
 
 -- ---- one more leaf
 

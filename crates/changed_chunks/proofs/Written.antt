@@ -16,17 +16,17 @@ use Rattle.array_geom.specs.declared.chunk.Changed.{Changed}
 use Rattle.array_geom.specs.declared.chunk.ChunkedArray.{ChunkedArray}
 use Rattle.array_geom.specs.Chunks.{IsChunk}
 use Rattle.array_geom.specs.Geometry.{ChunkNumber, HasFrame, core_meets, frame, has_core, overlaps}
-use Rattle.array_geom.specs.Link.{HoldsRows, Is, IsPart, NumbersRise, core_rows, has_cell, is_listed, is_not_empty, numbers}
+use Rattle.array_geom.specs.Link.{HoldsRows, Is, IsPart, NumbersRise, chunk_rows, core_rows, has_cell, is_listed, is_not_empty, numbers}
 use Rattle.array_geom.proofs.LinkLaws.{chunks_have_their_rows}
 use Rattle.array_geom.proofs.NearLemmas.{valid_placed}
 use Rattle.array_parts.specs.Cores.{HaveCells, cores_of}
 use Rattle.array_parts.specs.Placed.{HasPlaces, HavePlaces}
-use Rattle.array_parts.proofs.CoreLaws.{arrays_have_cells, cores_are_rows}
+use Rattle.array_parts.proofs.CoreLaws.{arrays_have_cells, cores_of_any}
 use Rattle.array_parts.proofs.PartLemmas.{all_kept}
 use Rattle.chunk_cells.specs.Whole.{CoresRise}
 use Rattle.chunk_cells.proofs.WholeLaws.{cores_rise, have_places}
 use Rattle.area_cells.proofs.CutLaws.{core_rows-append}
-use Rattle.area_cells.proofs.PieceLaws.{rise_in_cores}
+use Rattle.area_cells.proofs.PieceLaws.{rise_in_any}
 use Rattle.chunk_rle.specs.Stored.{IsStored}
 use Rattle.chunk_source.specs.Laws.{HasSoundCells}
 use Rattle.chunk_source.proofs.ReadingLeafLaws.{each_overlap}
@@ -110,19 +110,20 @@ module _ (put : ChunkedArray) (can : CanBeStored put) where
 -- ---- its rows over those of stored chunks
 
 module _ (put : ChunkedArray) (can : CanBeStored put) (old : List Chunk) (stored : AreStoredChunks put.schema old) where
-  old_cells : HaveCells put.schema put.margins.items old
-  old_cells = subst (λ (ms : List ℕ). HaveCells put.schema ms old) (sym can.margins) stored.cells
+  abbrev Placed : Schema → List ℕ → List Chunk → Type 0
+  Placed schema margins chunks = AllByRecursion (HasPlaces schema margins) chunks
 
-  both_cells : HaveCells put.schema put.margins.items (put.chunks ++ old)
-  both_cells = record {
-    placed = record {
-      valid = (its_cells put can).placed.valid;
-      each = (its_cells put can).placed.each;
-      places = (its_cells put can).placed.places;
-      all = all_both (HasPlaces put.schema put.margins.items) put.chunks old (its_cells put can).placed.all old_cells.placed.all;
-    };
-    rows_of = all_both _ put.chunks old (its_cells put can).rows_of old_cells.rows_of;
-  }
+  abbrev HaveRows : Schema → List ℕ → List Chunk → Type 0
+  HaveRows schema margins chunks = AllByRecursion (λ chunk. AreRowsOf schema (chunk_rows schema.dimensions margins chunk)) chunks
+
+  both_placed : Placed put.schema put.margins.items (put.chunks ++ old)
+  both_placed =
+      all_both (HasPlaces put.schema put.margins.items) put.chunks old (its_cells put can).placed.all (subst (λ (ms : List ℕ). Placed put.schema ms old) (sym can.margins) stored.placed)
+
+  both_rows : HaveRows put.schema put.margins.items (put.chunks ++ old)
+  both_rows =
+      all_both (λ chunk. AreRowsOf put.schema (chunk_rows put.schema.dimensions put.margins.items chunk)) put.chunks old (its_cells put can).rows_of
+      (subst (λ (ms : List ℕ). HaveRows put.schema ms old) (sym can.margins) stored.rows_of)
 
   abbrev over : List Row
   over = put_all (cores_of put) (stored_rows put.schema old)
@@ -134,17 +135,20 @@ module _ (put : ChunkedArray) (can : CanBeStored put) (old : List Chunk) (stored
 
   over_may : MayBeStored put.schema over
   over_may = subst (MayBeStored put.schema) over_is (record {
-    rows_of = cores_are_rows put.schema put.margins.items (put.chunks ++ old) both_cells;
+    rows_of = cores_of_any put.schema put.margins.items (put.chunks ++ old) can.holds.rows_of.valid both_rows;
     sound = sound_cores put.schema put.margins.items (put.chunks ++ old) (all_both (HasSoundCells put.schema) put.chunks old (its_sound put can) stored.sound);
   })
 
   -- the array of all these chunks
   module _ (schema : Schema) (margins : ArrayVec ℕ) (chunks : List Chunk) (s : schema ≡ put.schema) (m : margins ≡ put.margins) (e : chunks ≡ put.chunks ++ old) where
-    pub over_cells : HaveCells schema margins.items chunks
-    over_cells = subst (λ (z : Schema). HaveCells z margins.items chunks) (sym s) (subst (λ (z : ArrayVec ℕ). HaveCells put.schema z.items chunks) (sym m) (subst (HaveCells put.schema put.margins.items) (sym e) both_cells))
+    pub over_placed : Placed schema margins.items chunks
+    over_placed = subst (λ (z : Schema). Placed z margins.items chunks) (sym s) (subst (λ (z : ArrayVec ℕ). Placed put.schema z.items chunks) (sym m) (subst (Placed put.schema put.margins.items) (sym e) both_placed))
+
+    over_rows : HaveRows schema margins.items chunks
+    over_rows = subst (λ (z : Schema). HaveRows z margins.items chunks) (sym s) (subst (λ (z : ArrayVec ℕ). HaveRows put.schema z.items chunks) (sym m) (subst (HaveRows put.schema put.margins.items) (sym e) both_rows))
 
     pub over_rise : CoresRise schema.dimensions margins.items chunks
-    over_rise = rise_in_cores schema margins.items chunks over_cells
+    over_rise = rise_in_any schema margins.items chunks over_rows
 
     its_over : core_rows schema.dimensions margins.items chunks ≡ over
     its_over = (λ i. core_rows (s i).dimensions (m i).items (e i)) ∙ over_is
@@ -233,6 +237,6 @@ pub over_told : (put : ChunkedArray) (schema from : Schema) (input rows : List R
     → AreStoredChunks from old → Serves from (cores_of put) rows (stored_rows from old) → IsInsertOf put.schema (cores_of put) (stored_rows put.schema old) changed → IsInsertOf schema input rows changed
 over_told put schema from input rows old changed s c f may are enough w =
     written_over schema input rows (stored_rows schema old) changed may
-    (subst (λ (z : Schema). AreRowsOf z (stored_rows z old)) f (cores_are_rows from (overlaps from.dimensions) old are.cells))
+    (subst (λ (z : Schema). AreRowsOf z (stored_rows z old)) f (cores_of_any from (overlaps from.dimensions) old are.valid are.rows_of))
     (subst (λ (z : Schema). Serves z input rows (stored_rows z old)) f (subst (λ (z : List Row). Serves from z rows (stored_rows from old)) c enough))
     (subst (λ (z : Schema). IsInsertOf z input (stored_rows z old) changed) s (subst (λ (z : List Row). IsInsertOf put.schema z (stored_rows put.schema old) changed) c w))

@@ -54,7 +54,14 @@ pub have_places : (schema : Schema) (array : ChunkedArray) (rows : List Row) →
 have_places schema array rows h =
     let dims = schema.dimensions in
     let framed : AreFramed dims (numbers array.chunks) = subst (AreFramed dims) (same_numbers array.chunks) (cores_framed dims rows (numbered array.chunks) (valid_placed schema h.rows_of.valid).near h.rows_of.are_rows.in_bounds (are_cores dims array.margins.items rows array.chunks h.chunks)) in
-    record { valid = h.rows_of.valid; each = h.each; places = h.places; all = all_placed schema array rows h array.chunks framed h.chunks.parts }
+    record {
+      valid = h.rows_of.valid;
+      each = h.each;
+      places = h.places;
+      rising = h.chunks.in_order;
+      sized = h.chunks.sized;
+      all = all_placed schema array rows h array.chunks framed h.chunks.parts;
+    }
 
 -- and rise in each core
 pub cores_rise : (schema : Schema) (array : ChunkedArray) (rows : List Row) (chunks : List Chunk) → chunks ≡ array.chunks → HoldsRows schema array rows → CoresRise schema.dimensions array.margins.items chunks

@@ -20,6 +20,7 @@ use Rattle.logical_plan.specs.Meaning.{Database, meaning, version_rows, whole, b
 use Rattle.logical_plan.specs.PlanSchema.{schema_of}
 use Rattle.logical_plan.specs.Query.{Query, built, listed, scanned, filtered, applied, projected, between, subarray}
 use Rattle.logical_plan.specs.Query.{sliced, joined, crossed, redimensioned, regridded, windowed, aggregated}
+use Rattle.logical_plan.specs.Query.{sorted, ranked, cumulated, transposed, reversed, unpacked, xgridded, merged, concatenated}
 use Rattle.logical_plan.specs.Typing.{IsTyped}
 use Rattle.logical_plan.proofs.ArrayLaws.{typed_arrays}
 use Rattle.plan_needs.specs.Wanted.{wanted_of}
@@ -121,6 +122,15 @@ numbered_one db n (redimensioned s schema gs) source is = let e : s ≡ source =
 numbered_one db n (regridded s sizes gs) source is = let e : s ≡ source = cc in ap (λ (z : Query). operated (regridded s sizes gs) (meaning db (numbered n z) ∷ [])) e
 numbered_one db n (windowed s reach gs) source is = let e : s ≡ source = cc in ap (λ (z : Query). operated (windowed s reach gs) (meaning db (numbered n z) ∷ [])) e
 numbered_one db n (aggregated s gs places) source is = let e : s ≡ source = cc in ap (λ (z : Query). operated (aggregated s gs places) (meaning db (numbered n z) ∷ [])) e
+numbered_one db n (sorted s keys schema) source is = let e : s ≡ source = cc in ap (λ (z : Query). operated (sorted s keys schema) (meaning db (numbered n z) ∷ [])) e
+numbered_one db n (ranked s x dims) source is = let e : s ≡ source = cc in ap (λ (z : Query). operated (ranked s x dims) (meaning db (numbered n z) ∷ [])) e
+numbered_one db n (cumulated s gs d) source is = let e : s ≡ source = cc in ap (λ (z : Query). operated (cumulated s gs d) (meaning db (numbered n z) ∷ [])) e
+numbered_one db n (transposed s) source is = let e : s ≡ source = cc in ap (λ (z : Query). operated (transposed s) (meaning db (numbered n z) ∷ [])) e
+numbered_one db n (reversed s) source is = let e : s ≡ source = cc in ap (λ (z : Query). operated (reversed s) (meaning db (numbered n z) ∷ [])) e
+numbered_one db n (unpacked s schema) source is = let e : s ≡ source = cc in ap (λ (z : Query). operated (unpacked s schema) (meaning db (numbered n z) ∷ [])) e
+numbered_one db n (xgridded s sizes) source is = let e : s ≡ source = cc in ap (λ (z : Query). operated (xgridded s sizes) (meaning db (numbered n z) ∷ [])) e
+numbered_one db n (merged l r) source is = absurd cc
+numbered_one db n (concatenated l r) source is = absurd cc
 
 numbered_two : (db : Database) (n : ℕ) (query left right : Query) → left ∷ right ∷ [] ≡ sources query
     → meaning db (numbered n query) ≡ operated query (meaning db (numbered n left) ∷ meaning db (numbered (n + length (leaves left)) right) ∷ [])
@@ -134,6 +144,16 @@ numbered_two db n (crossed l r pairs schema) left right is =
     let f : r ≡ right = cc in
     ap (λ (z : Query). operated (crossed l r pairs schema) (meaning db (numbered n z) ∷ meaning db (numbered (n + length (leaves z)) r) ∷ [])) e
     ∙ ap (λ (z : Query). operated (crossed l r pairs schema) (meaning db (numbered n left) ∷ meaning db (numbered (n + length (leaves left)) z) ∷ [])) f
+numbered_two db n (merged l r) left right is =
+    let e : l ≡ left = cc in
+    let f : r ≡ right = cc in
+    ap (λ (z : Query). operated (merged l r) (meaning db (numbered n z) ∷ meaning db (numbered (n + length (leaves z)) r) ∷ [])) e
+    ∙ ap (λ (z : Query). operated (merged l r) (meaning db (numbered n left) ∷ meaning db (numbered (n + length (leaves left)) z) ∷ [])) f
+numbered_two db n (concatenated l r) left right is =
+    let e : l ≡ left = cc in
+    let f : r ≡ right = cc in
+    ap (λ (z : Query). operated (concatenated l r) (meaning db (numbered n z) ∷ meaning db (numbered (n + length (leaves z)) r) ∷ [])) e
+    ∙ ap (λ (z : Query). operated (concatenated l r) (meaning db (numbered n left) ∷ meaning db (numbered (n + length (leaves left)) z) ∷ [])) f
 numbered_two db n query left right is = absurd cc
 
 -- ---- plans of one source

@@ -1,7 +1,7 @@
 -- Typed plans mean arrays.
 use Rattle.std.proofs.Common.{◌≡◌, ℕ, IsTrue, List, [], ◌∷◌, ◌++◌, length, refl, sym, subst}
 use Rattle.std.specs.List.{AllByRecursion}
-use Rattle.std.specs.Prelude.{IfOk}
+use Rattle.std.specs.Prelude.{nat_lt, IfOk}
 use Rattle.cell_values.specs.declared.schema.Bounds.{Bounds}
 use Rattle.cell_values.specs.declared.schema.Schema.{Schema}
 use Rattle.cell_values.specs.Schemas.{IsValid}
@@ -19,6 +19,7 @@ use Rattle.logical_plan.specs.Leaves.{leaves}
 use Rattle.logical_plan.specs.Meaning.{Database, meaning, version_rows}
 use Rattle.logical_plan.specs.PlanSchema.{schema_of, subarray_schema, regrid_schema, in_blocks, group_dimensions}
 use Rattle.logical_plan.specs.Query.{Query, built, listed, scanned, filtered, applied, projected, between, subarray, sliced, joined, crossed, redimensioned, regridded, windowed, aggregated}
+use Rattle.logical_plan.specs.Query.{sorted, ranked, cumulated, transposed, reversed, unpacked, xgridded, merged, concatenated}
 use Rattle.logical_plan.specs.Redimension.{redimension_rows}
 use Rattle.logical_plan.specs.Typing.{IsTyped, are_blocks_of, are_windows_of, are_aggregates_of, are_below, redimensions}
 use Rattle.logical_plan.proofs.ArrayLaws.{HasLeaves, typed_arrays}
@@ -30,7 +31,9 @@ use Rattle.exec_join.proofs.SideLaws.{join_are_rows}
 use Rattle.chunk_exec.specs.Counts.{CanCount, CountsFit}
 use Rattle.chunk_exec.proofs.GroupedRows.{counted, aggregated_array, regridded_array, windowed_array}
 use Rattle.chunk_exec.proofs.KeptPlaces.{whole_follows, both_follow, filtered_array, applied_array, projected_array, boxed_array}
+use Rattle.chunk_exec.proofs.OrderedArrays.{cumulated_array, ranked_array, sorted_array}
 use Rattle.chunk_exec.proofs.RedimensionedRows.{redimensioned_array}
+use Rattle.chunk_exec.proofs.ShapedArrays.{concatenated_array, merged_array, reversed_array, transposed_array, unpacked_array, xgridded_array}
 
 -- ---- leaves of two sources
 
@@ -100,3 +103,20 @@ plan_arrays db (windowed source reach gs) t l f =
 plan_arrays db (aggregated source gs places) t l f =
     let typed = and_parts (are_below (length (schema_of source).dimensions) places) (are_aggregates_of (schema_of source).attributes gs) t.1 in
     counted (schema_of source) gs (group_dimensions places (schema_of source).dimensions) (aggregate_rows places gs) t.2 (aggregated_array (schema_of source) gs places t.2 typed.0 typed.1) (meaning db source).rows (plan_arrays db source t.0 l f.0) f.1
+plan_arrays db (sorted source keys schema) t l f = sorted_array (schema_of source) schema keys t.2 t.3 (meaning db source).rows (plan_arrays db source t.0 l f)
+plan_arrays db (ranked source x dims) t l f = ranked_array (schema_of source) x dims t.1 t.2 (meaning db source).rows (plan_arrays db source t.0 l f.0) f.1
+plan_arrays db (cumulated source gs n) t l f =
+    let typed = and_parts (are_aggregates_of (schema_of source).attributes gs) (nat_lt n (length (schema_of source).dimensions)) t.1 in
+    cumulated_array (schema_of source) gs n typed.0 t.2 (meaning db source).rows (plan_arrays db source t.0 l f.0) f.1
+plan_arrays db (transposed source) t l f = transposed_array (schema_of source) t.1 (meaning db source).rows (plan_arrays db source t.0 l f)
+plan_arrays db (reversed source) t l f = reversed_array (schema_of source) (meaning db source) (meaning_schema db source) (plan_arrays db source t.0 l f)
+plan_arrays db (unpacked source schema) t l f = unpacked_array (schema_of source) schema t.1 t.2 (meaning db source).rows (plan_arrays db source t.0 l f)
+plan_arrays db (xgridded source sizes) t l f = xgridded_array (schema_of source) sizes t.1 t.2 (meaning db source) (meaning_schema db source) (plan_arrays db source t.0 l f)
+plan_arrays db (merged left right) t l f =
+    let of_left = plan_arrays db left t.0 (left_leaves (IsLeaf db) (leaves left) (leaves right) l) f.0 in
+    let of_right = plan_arrays db right t.1 (right_leaves (IsLeaf db) (leaves left) (leaves right) l) f.1 in
+    merged_array (schema_of left) (schema_of right) t.2 t.3 (meaning db left).rows (meaning db right).rows of_left of_right
+plan_arrays db (concatenated left right) t l f =
+    let of_left = plan_arrays db left t.0 (left_leaves (IsLeaf db) (leaves left) (leaves right) l) f.0 in
+    let of_right = plan_arrays db right t.1 (right_leaves (IsLeaf db) (leaves left) (leaves right) l) f.1 in
+    concatenated_array (schema_of left) (schema_of right) t.2 t.3 (meaning db left) (meaning db right) (meaning_schema db left) (meaning_schema db right) of_left of_right

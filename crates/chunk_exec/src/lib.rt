@@ -7,6 +7,5 @@ mod rows;
 pub use chunk_source::ExecFault;
 pub use plans::execute;
 pub use rows::{
-    PlanArray, PlanRows, array_of, computed_plans_mean_arrays, first_fault, rows_of,
-    typed_plans_mean_arrays,
+    PlanArray, PlanRows, array_of, computed_plans_mean_arrays, first_fault, typed_plans_mean_arrays,
 };

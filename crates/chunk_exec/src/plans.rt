@@ -6,7 +6,6 @@ mod leaf;
 mod needed;
 mod operators;
 mod running;
-mod sources;
 mod steps;
 
 pub use running::execute;

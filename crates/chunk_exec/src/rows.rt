@@ -4,4 +4,4 @@ mod laws;
 mod rows;
 
 pub use laws::{computed_plans_mean_arrays, typed_plans_mean_arrays};
-pub use rows::{PlanArray, PlanRows, array_of, first_fault, rows_of};
+pub use rows::{PlanArray, PlanRows, array_of, first_fault};

@@ -7,6 +7,7 @@ pub mod FieldReads
 pub mod PayloadLaws
 pub mod PlaceLemmas
 pub mod PositionLaws
+pub mod RunChunkLaws
 pub mod RunLemmas
 pub mod Steps
 pub mod StoredLaws
@@ -14,4 +15,5 @@ pub mod Telling
 pub mod Tested
 pub mod ValueLaws
 pub mod WholeFrames
+pub mod WithinLaws
 mod Worked

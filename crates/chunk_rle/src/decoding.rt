@@ -1,5 +1,5 @@
 //! Decoding payloads.
-ghost use Rattle.std.specs.Prelude.{◌≡◌, ◌+◌, ◌<◌, ◌^◌, length, All, IfOk, IsTrue, Ok};
+ghost use Rattle.std.specs.Prelude.{◌≡◌, ◌+◌, ◌<◌, ◌^◌, length, All, IfErr, IfOk, IsTrue, Ok};
 ghost use Rattle.file_items.specs.Items.{IsRead};
 ghost use Rattle.array_geom.specs.Schemas.{IsValid};
 ghost use Rattle.array_geom.specs.Schema.{Schema as ASchema};
@@ -7,17 +7,21 @@ ghost use Rattle.array_geom.specs.Geometry.{has_core};
 ghost use Rattle.array_geom.specs.declared.chunk.Chunk.{Chunk as AChunk};
 ghost use Rattle.array_rows.specs.RowsIn.{AreLong};
 ghost use Rattle.chunk_rle.specs.Chunks.{spelling, all_values, chunk_of, chunk_payload};
-ghost use Rattle.chunk_rle.specs.Decoding.{Answers, Told};
+ghost use Rattle.chunk_rle.specs.Decoding.{Answers, IsWithin, Told};
 ghost use Rattle.chunk_rle.specs.Frames.{frame_in, frame_of};
 ghost use Rattle.chunk_rle.specs.Inner.Ready.{IsReady};
 ghost use Rattle.chunk_rle.specs.Longest.{positions_of};
+ghost use Rattle.chunk_rle.specs.RunChunks.{cells_of, runs_of, AreRunsOf};
+ghost use Rattle.chunk_rle.specs.Spelling.{spell_runs};
 ghost use Rattle.chunk_rle.specs.Stored.{IsStored};
+ghost use Rattle.chunk_rle.specs.Table.{payload};
+ghost use Rattle.chunk_rle.specs.declared.runs.RunChunk.{RunChunk as ARunChunk};
 
-use crate::expanding::{cells, positions};
+use crate::expanding::chunk_of_runs;
 use crate::places::{Places, places_of};
 use crate::reading::payload;
-use crate::runs::ChunkRuns;
-use array_geom::{Attribute, Chunk, ChunkAt, Memory, Schema, copy_numbers};
+use crate::runs::{ChunkRuns, RunChunk, numbered};
+use array_geom::{Attribute, Chunk, ChunkAt, Memory, Schema};
 use file_items::Stop;
 use std::alloc::Global;
 
@@ -41,21 +45,6 @@ fn told(bytes: &[u8], stop: Stop) -> BadPayload
     }
 }
 
-/// The chunk that these runs are of.
-fn chunk(alloc: Global, at: &ChunkAt, runs: &ChunkRuns) -> Result<Chunk, Memory>
-    requires within { All (λ run. run.start + run.length < 2 ^ 64) runs.now.positions }
-    requires long { AreLong (length (positions_of runs.now.positions)) (all_values runs.now.columns) }
-    ensures { IfOk result (λ chunk. chunk ≡ chunk_of at.now runs.now) }
-{
-    let positions = positions(alloc, runs.positions.as_slice())?;
-    let cells = cells(alloc, runs.columns.as_slice(), positions.len())?;
-    Ok(Chunk {
-        at: copy_numbers(at),
-        positions,
-        cells,
-    })
-}
-
 fn chunk_at(
     alloc: Global,
     places: &Places,
@@ -67,7 +56,7 @@ fn chunk_at(
     ensures { IsRead (λ x. x) result (chunk_payload (frame_in places.now) at.now attributes.now bytes.now) }
 {
     match payload(alloc, places, attributes, bytes) {
-        Ok(runs) => match chunk(alloc, at, &runs) {
+        Ok(runs) => match chunk_of_runs(alloc, &numbered(at, runs)) {
             Ok(chunk) => Ok(chunk),
             Err(Memory) => Err(Stop::Memory),
         },
@@ -75,10 +64,18 @@ fn chunk_at(
     }
 }
 
-fn stored_chunk(alloc: Global, schema: &Schema, at: &ChunkAt, bytes: &[u8]) -> Result<Chunk, Stop>
+/// The chunk with this number that all of these bytes spell, or how many of them are left at the
+/// first wrong item.
+pub fn payload_chunk(
+    alloc: Global,
+    schema: &Schema,
+    at: &ChunkAt,
+    bytes: &[u8],
+) -> Result<Chunk, Stop>
     requires valid { IsValid schema.now }
     requires core { IsTrue (has_core schema.now.dimensions at.now.items) }
-    ensures { IsRead (λ x. x) result (chunk_payload (frame_of schema.now at.now.items) at.now schema.now.attributes bytes.now) }
+    ensures read { IsRead (λ x. x) result (chunk_payload (frame_of schema.now at.now.items) at.now schema.now.attributes bytes.now) }
+    ensures within { IfErr result (λ stop. IsWithin (length bytes.now) stop) }
 {
     let places = places_of(schema, at);
     let attributes = schema.attributes.as_slice();
@@ -105,8 +102,49 @@ pub fn decode(
     // Which item is the first wrong one.
     ensures exact { Answers (λ x. x) result bytes.now (chunk_payload (frame_of schema.now at.now.items) at.now schema.now.attributes bytes.now) }
 {
-    match stored_chunk(alloc, schema, at, bytes) {
+    match payload_chunk(alloc, schema, at, bytes) {
         Ok(chunk) => Ok(chunk),
+        Err(stop) => Err(told(bytes, stop)),
+    }
+}
+
+fn stored_runs(
+    alloc: Global,
+    schema: &Schema,
+    at: &ChunkAt,
+    bytes: &[u8],
+) -> Result<ChunkRuns, Stop>
+    requires valid { IsValid schema.now }
+    requires core { IsTrue (has_core schema.now.dimensions at.now.items) }
+    ensures { IsRead (λ x. x) result (payload (frame_of schema.now at.now.items) schema.now.attributes bytes.now) }
+{
+    let places = places_of(schema, at);
+    payload(alloc, &places, schema.attributes.as_slice(), bytes)
+}
+
+/// The chunk with this number that these bytes spell, run by run: no run is expanded. What is
+/// answered is what `decode` answers: the chunk whose cells these runs are, or the same offset.
+pub fn decode_runs(
+    alloc: Global,
+    schema: &Schema,
+    at: &ChunkAt,
+    bytes: &[u8],
+) -> Result<RunChunk, BadPayload>
+    requires valid { IsValid schema.now }
+    requires core { IsTrue (has_core schema.now.dimensions at.now.items) }
+    // Its items meet the table of payloads, and its cells are a chunk that is stored.
+    ensures runs { IfOk result (AreRunsOf schema.now) }
+    ensures stored { IfOk result (λ chunk. IsStored schema.now (cells_of chunk)) }
+    ensures number { IfOk result (λ chunk. chunk.at ≡ at.now) }
+    ensures spelled { IfOk result (λ chunk. bytes.now ≡ spell_runs (runs_of chunk)) }
+    // Runs that are spelled so are answered, unless memory runs out.
+    ensures only { (chunk : ARunChunk) → AreRunsOf schema.now chunk → chunk.at ≡ at.now
+        → bytes.now ≡ spell_runs (runs_of chunk) → Answers (λ x. x) result bytes.now (Ok chunk) }
+    // Its cells are those of `decode`, and so are its refusals.
+    ensures exact { Answers cells_of result bytes.now (chunk_payload (frame_of schema.now at.now.items) at.now schema.now.attributes bytes.now) }
+{
+    match stored_runs(alloc, schema, at, bytes) {
+        Ok(runs) => Ok(numbered(at, runs)),
         Err(stop) => Err(told(bytes, stop)),
     }
 }

@@ -10,5 +10,7 @@ mod reading;
 mod runs;
 mod writing;
 
-pub use decoding::{BadPayload, decode, same_spelling_same_chunk};
-pub use encoding::encode;
+pub use decoding::{BadPayload, decode, decode_runs, payload_chunk, same_spelling_same_chunk};
+pub use encoding::{encode, runs_of_chunk};
+pub use expanding::{chunk_of_runs, run_positions};
+pub use runs::{Column, PosRun, Run, RunChunk};

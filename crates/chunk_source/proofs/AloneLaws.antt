@@ -64,7 +64,7 @@ numbers_kept P p (x ∷ xs) a = cases (p x) (numbers_kept P p xs a.1)
     cases true ih = (a.0, ih)
     cases false ih = ih
 
-rise_kept : (p : ArrayVec ℕ → Bool) (xs : List (ArrayVec ℕ)) → NumbersRise (numbers_of xs) → NumbersRise (numbers_of (filter p xs))
+pub rise_kept : (p : ArrayVec ℕ → Bool) (xs : List (ArrayVec ℕ)) → NumbersRise (numbers_of xs) → NumbersRise (numbers_of (filter p xs))
 rise_kept p [] r = tt
 rise_kept p (x ∷ xs) r = cases (p x) (numbers_kept (λ later. number_order x.items later ≡ Less) p xs r.0) (rise_kept p xs r.1)
   where

@@ -1,5 +1,5 @@
 -- The rows of chunks in order are what they tell.
-use Rattle.std.proofs.Common.{◌≡◌, ℕ, Bool, true, false, cond, ◌||◌, List, [], ◌∷◌, ◌++◌, Option, Some, None, Result, Ok, Err, refl, sym, ap, ◌∙◌, subst}
+use Rattle.std.proofs.Common.{◌≡◌, ℕ, Bool, true, false, cond, ◌||◌, List, [], ◌∷◌, ◌++◌, length, Option, Some, None, Result, Ok, Err, refl, sym, ap, ◌∙◌, subst}
 use Rattle.std.specs.List.{AllByRecursion, AllZip, flat_map}
 use Rattle.std.specs.Option.{option_or}
 use Rattle.std.specs.Prelude.{IfOk}
@@ -23,12 +23,12 @@ use Rattle.array_rows.proofs.RowSets.{cell_at-in_order, cell_at-rows_where, cell
 use Rattle.array_geom.specs.declared.chunk.Chunk.{Chunk}
 use Rattle.array_geom.specs.declared.chunk.ChunkedArray.{ChunkedArray}
 use Rattle.array_geom.specs.Chunks.{IsChunk}
-use Rattle.array_geom.specs.Geometry.{frame, overlaps}
-use Rattle.array_geom.specs.Link.{Is, IsPart, NumbersRise, chunk_rows}
+use Rattle.array_geom.specs.Geometry.{core_meets, frame, overlaps}
+use Rattle.array_geom.specs.Link.{Is, IsPart, NumbersRise, chunk_rows, numbers}
 use Rattle.array_geom.proofs.MarginLaws.{overlap_each, overlap_places}
 use Rattle.array_parts.specs.Placed.{HasPlaces, HavePlaces}
 use Rattle.array_parts.proofs.LawProofs.{held_rows_placed}
-use Rattle.array_parts.proofs.PlaceRows.{valid_chunks_have_cells}
+use Rattle.array_parts.proofs.PlaceRows.{all_valid}
 use Rattle.logical_plan.specs.Meaning.{Database, version_rows, whole}
 use Rattle.logical_plan.specs.declared.parts.Leaf.{Leaf}
 use Rattle.plan_needs.specs.Wanted.{wanted_of}
@@ -37,7 +37,8 @@ use Rattle.chunk_source.proofs.ValidLaws.{valid_chunks}
 use Rattle.chunk_source.specs.Inner.Alone.{stand_alone}
 use Rattle.chunk_source.specs.Known.{IsPartIn, is_framed, known, known_for}
 use Rattle.chunk_source.specs.Read.{IsRead}
-use Rattle.chunk_source.proofs.AloneLaws.{alone_is_known}
+use Rattle.chunk_source.proofs.AloneLaws.{alone_is_known, rise_kept}
+use Rattle.chunk_source.proofs.ReadingLeafLaws.{core_sized, stored_numbers}
 
 -- ---- cells
 
@@ -126,28 +127,37 @@ each_placed : (schema : Schema) (margins : List ℕ) (chunks : List Chunk) → A
 each_placed schema margins [] a = tt
 each_placed schema margins (chunk ∷ chunks) a = (record { framed = a.0.framed; placed = record { each = a.0.each; in_frame = a.0.in_frame } }, each_placed schema margins chunks a.1)
 
+numbers_sized : (schema : Schema) (margins : List ℕ) (chunks : List Chunk) → AllByRecursion (IsChunk schema margins) chunks → AllByRecursion (λ k. length k ≡ length schema.dimensions) (numbers chunks)
+numbers_sized schema margins [] a = tt
+numbers_sized schema margins (chunk ∷ chunks) a = (core_sized schema.dimensions chunk.at.items a.0.framed.core, numbers_sized schema margins chunks a.1)
+
 -- chunks of a schema, with its overlaps as margins
 module _ (schema : Schema) (margins : List ℕ) (chunks : List Chunk) (are : margins ≡ overlaps schema.dimensions) (valid : IsValid schema) (good : AllByRecursion (IsChunk schema (overlaps schema.dimensions)) chunks) where
   their_margins : AllByRecursion (IsChunk schema margins) chunks
   their_margins = subst (λ (ms : List ℕ). AllByRecursion (IsChunk schema ms) chunks) (sym are) good
 
-  pub have_places : HavePlaces schema margins chunks
-  have_places = record {
+  pub their_places : AllByRecursion (HasPlaces schema margins) chunks
+  their_places = each_placed schema margins chunks their_margins
+
+  have_places : NumbersRise (numbers chunks) → HavePlaces schema margins chunks
+  have_places rise = record {
     valid = valid;
     each = overlap_each schema margins are;
     places = overlap_places schema margins are valid;
-    all = each_placed schema margins chunks their_margins;
+    rising = rise;
+    sized = numbers_sized schema margins chunks their_margins;
+    all = their_places;
   }
 
   pub are_rows : (rows : List Row) → rows ≡ in_order (flat_map (chunk_rows schema.dimensions margins) chunks) → AreRowsOf schema rows
-  are_rows rows e = subst (AreRowsOf schema) (sym e) (rows_in_chunks schema margins chunks valid (valid_chunks_have_cells schema margins chunks have_places their_margins).rows_of)
+  are_rows rows e = subst (AreRowsOf schema) (sym e) (rows_in_chunks schema margins chunks valid (all_valid schema margins chunks their_margins))
 
-  pub standing_is_read : (array : ChunkedArray) → array.schema ≡ schema → array.margins.items ≡ margins → array.broken ≡ None → array.chunks ≡ chunks → IsRead schema array
-  standing_is_read array e m b c = record {
+  pub standing_is_read : NumbersRise (numbers chunks) → (array : ChunkedArray) → array.schema ≡ schema → array.margins.items ≡ margins → array.broken ≡ None → array.chunks ≡ chunks → IsRead schema array
+  standing_is_read rise array e m b c = record {
     schema_is = e;
     margins = m ∙ are;
     whole = b;
-    placed = rw (e, m, c) have_places;
+    placed = rw (e, m, c) (have_places rise);
     valid = rw (e, m, c) their_margins;
   }
 
@@ -161,11 +171,11 @@ held_is_read schema rows array is m = record {
 }
 
 -- the same of what a call answers
-pub all_standing_are_read : (schema : Schema) (chunks : List Chunk) → IsValid schema → AllByRecursion (IsChunk schema (overlaps schema.dimensions)) chunks → (answer : Result ChunkedArray Memory)
+pub all_standing_are_read : (schema : Schema) (chunks : List Chunk) → IsValid schema → AllByRecursion (IsChunk schema (overlaps schema.dimensions)) chunks → NumbersRise (numbers chunks) → (answer : Result ChunkedArray Memory)
     → IfOk answer (λ array. array.schema ≡ schema) → IfOk answer (λ array. array.margins.items ≡ overlaps schema.dimensions) → IfOk answer (λ array. array.broken ≡ None) → IfOk answer (λ array. array.chunks ≡ chunks)
     → IfOk answer (IsRead schema)
-all_standing_are_read schema chunks valid good (Ok array) e m b c = standing_is_read schema (overlaps schema.dimensions) chunks refl valid good array e m b c
-all_standing_are_read schema chunks valid good (Err memory) e m b c = tt
+all_standing_are_read schema chunks valid good rise (Ok array) e m b c = standing_is_read schema (overlaps schema.dimensions) chunks refl valid good rise array e m b c
+all_standing_are_read schema chunks valid good rise (Err memory) e m b c = tt
 
 pub all_held_are_read : (schema : Schema) (rows : List Row) (answer : Result ChunkedArray Memory) → IfOk answer (λ array. Is array (whole schema rows)) → IfOk answer (λ array. array.margins.items ≡ overlaps schema.dimensions)
     → IfOk answer (IsRead schema)
@@ -179,6 +189,13 @@ valid_stored schema [] [] z = tt
 valid_stored schema [] (c ∷ chunks) z = absurd z
 valid_stored schema (n ∷ at) [] z = absurd z
 valid_stored schema (n ∷ at) (c ∷ chunks) z = (z.0.valid, valid_stored schema at chunks z.1)
+
+-- what was read of the wanted chunks stands by rising numbers
+pub wanted_rise : (leaf : Leaf) (area : Bounds) (stored wanted : List (ArrayVec ℕ)) (chunks : List Chunk) → NumbersRise (numbers_of stored) → wanted ≡ wanted_of leaf.schema.dimensions area stored
+    → AllZip (IsStored leaf.schema) wanted chunks → NumbersRise (numbers chunks)
+wanted_rise leaf area stored wanted chunks rising is zip =
+    subst NumbersRise (sym (stored_numbers leaf.schema wanted chunks zip))
+    (subst (λ (ks : List (ArrayVec ℕ)). NumbersRise (numbers_of ks)) (sym is) (rise_kept (λ chunk. core_meets leaf.schema.dimensions area chunk.items) stored rising))
 
 pub part_is_told : (db : Database) (leaf : Leaf) (area : Bounds) (stored : List (ArrayVec ℕ)) (chunks : List Chunk) (alone : Bool) (array : ChunkedArray)
     → alone ≡ stand_alone leaf.schema.dimensions stored (wanted_of leaf.schema.dimensions area stored) → IsValid leaf.schema → NumbersRise (numbers_of stored)

@@ -13,12 +13,18 @@ use Rattle.logical_plan.specs.CellOps.{apply_rows, filter_rows, project_rows}
 use Rattle.logical_plan.specs.Groups.{aggregate_rows, regrid_rows, window_rows}
 use Rattle.logical_plan.specs.Joins.{cross_rows, join_rows}
 use Rattle.logical_plan.specs.Leaves.{leaves}
-use Rattle.logical_plan.specs.Meaning.{Database, made, made_of_two, meaning, redimensioned_from, version_rows, whole}
-use Rattle.logical_plan.specs.PlanSchema.{aggregate_schema, apply_schema, cross_schema, join_schema, project_schema, regrid_schema, schema_of, slice_schema, subarray_schema, window_schema}
+use Rattle.logical_plan.specs.Meaning.{Database, made, made_of_two, meaning, redimensioned_from, sorted_from, version_rows, whole}
+use Rattle.logical_plan.specs.Ordered.{cumulate_rows, rank_rows}
+use Rattle.logical_plan.specs.PlanSchema.{aggregate_schema, apply_schema, cross_schema, cumulate_schema, join_schema, project_schema, rank_schema, regrid_schema, schema_of, slice_schema, sort_schema, subarray_schema, window_schema}
 use Rattle.logical_plan.specs.Query.{Query, built, listed, scanned, filtered, applied, projected, between, subarray}
 use Rattle.logical_plan.specs.Query.{sliced, joined, crossed, redimensioned, regridded, windowed, aggregated}
-use Rattle.logical_plan.specs.Typing.{IsTyped, are_aggregates_of, are_apart, are_below, are_blocks_of, are_windows_of, fits_apply, is_box_of, is_over, pairs_dimensions, redimensions, same_bounds}
+use Rattle.logical_plan.specs.Query.{sorted, ranked, cumulated, transposed, reversed, unpacked, xgridded, merged, concatenated}
+use Rattle.logical_plan.specs.ShapeMeant.{concat_meant, merge_meant, reverse_meant, transpose_meant, unpack_meant, xgrid_meant}
+use Rattle.logical_plan.specs.ShapeSchemas.{concat_schema, merge_schema, transpose_schema, unpack_schema, xgrid_schema}
+use Rattle.logical_plan.specs.Typing.{IsTyped, are_aggregates_of, are_apart, are_below, are_blocks_of, are_bounded, are_keys_of, are_windows_of, concatenates, cumulates, enlarges, first_name, fits_apply, is_box_of, is_over, merges, pairs_dimensions, ranks, redimensions, same_bounds}
 use Rattle.plan_needs.specs.Needs.{is_scan, needs}
+use Rattle.plan_needs.specs.OrderSides.{of_cumulate, of_rank}
+use Rattle.plan_needs.specs.ShapeSides.{of_behind, of_front, of_reverse, of_transpose, of_xgrid}
 use Rattle.plan_needs.specs.Sides.{Sides, of_aggregate, of_between, of_left, of_regrid, of_right, of_slice, of_subarray, of_window, whole as all_places}
 use Rattle.chunk_source.specs.NumberLaws.{NumberedPlansMeanTheSame}
 use Rattle.chunk_source.specs.Numbered.{HoldsAll, numbered, numbered_leaf, rows_of_leaves}
@@ -61,6 +67,21 @@ same_leaves n (redimensioned source schema gs) = same_leaves n source
 same_leaves n (regridded source sizes gs) = same_leaves n source
 same_leaves n (windowed source reach gs) = same_leaves n source
 same_leaves n (aggregated source gs places) = same_leaves n source
+same_leaves n (sorted source keys schema) = same_leaves n source
+same_leaves n (ranked source x dims) = same_leaves n source
+same_leaves n (cumulated source gs d) = same_leaves n source
+same_leaves n (transposed source) = same_leaves n source
+same_leaves n (reversed source) = same_leaves n source
+same_leaves n (unpacked source schema) = same_leaves n source
+same_leaves n (xgridded source sizes) = same_leaves n source
+same_leaves n (merged left right) =
+    of_two (λ (x y : List Leaf). x ++ y) (leaves (numbered n left)) (numbered_leaves n (leaves left)) (leaves (numbered (n + length (leaves left)) right)) (numbered_leaves (n + length (leaves left)) (leaves right))
+    (same_leaves n left) (same_leaves (n + length (leaves left)) right)
+    ∙ sym (numbered_both n (leaves left) (leaves right))
+same_leaves n (concatenated left right) =
+    of_two (λ (x y : List Leaf). x ++ y) (leaves (numbered n left)) (numbered_leaves n (leaves left)) (leaves (numbered (n + length (leaves left)) right)) (numbered_leaves (n + length (leaves left)) (leaves right))
+    (same_leaves n left) (same_leaves (n + length (leaves left)) right)
+    ∙ sym (numbered_both n (leaves left) (leaves right))
 
 -- ---- schemas and needs
 
@@ -80,6 +101,17 @@ same_schema n (redimensioned source schema gs) = refl
 same_schema n (regridded source sizes gs) = ap (regrid_schema sizes gs) (same_schema n source)
 same_schema n (windowed source reach gs) = ap (window_schema gs) (same_schema n source)
 same_schema n (aggregated source gs places) = ap (aggregate_schema gs places) (same_schema n source)
+same_schema n (sorted source keys schema) = refl
+same_schema n (ranked source x dims) = ap (rank_schema x) (same_schema n source)
+same_schema n (cumulated source gs d) = ap (cumulate_schema gs) (same_schema n source)
+same_schema n (transposed source) = ap transpose_schema (same_schema n source)
+same_schema n (reversed source) = same_schema n source
+same_schema n (unpacked source schema) = refl
+same_schema n (xgridded source sizes) = ap (xgrid_schema sizes) (same_schema n source)
+same_schema n (merged left right) =
+    of_two merge_schema (schema_of (numbered n left)) (schema_of left) (schema_of (numbered (n + length (leaves left)) right)) (schema_of right) (same_schema n left) (same_schema (n + length (leaves left)) right)
+same_schema n (concatenated left right) =
+    of_two concat_schema (schema_of (numbered n left)) (schema_of left) (schema_of (numbered (n + length (leaves left)) right)) (schema_of right) (same_schema n left) (same_schema (n + length (leaves left)) right)
 
 same_scan : (n : ℕ) (query : Query) → is_scan (numbered n query) ≡ is_scan query
 same_scan n (scanned leaf) = refl
@@ -97,6 +129,15 @@ same_scan n (redimensioned source schema gs) = refl
 same_scan n (regridded source sizes gs) = refl
 same_scan n (windowed source reach gs) = refl
 same_scan n (aggregated source gs places) = refl
+same_scan n (sorted source keys schema) = refl
+same_scan n (ranked source x dims) = refl
+same_scan n (cumulated source gs d) = refl
+same_scan n (transposed source) = refl
+same_scan n (reversed source) = refl
+same_scan n (unpacked source schema) = refl
+same_scan n (xgridded source sizes) = refl
+same_scan n (merged left right) = refl
+same_scan n (concatenated left right) = refl
 
 pub same_needs : (n : ℕ) (query : Query) (sides : Sides) → needs (numbered n query) sides ≡ needs query sides
 same_needs n (built schema e) sides = refl
@@ -131,6 +172,31 @@ same_needs n (windowed source reach gs) sides =
     ∙ same_needs n source (of_window (is_scan source) (schema_of source).dimensions reach sides)
 same_needs n (aggregated source gs places) sides =
     ap (λ (s : Schema). needs (numbered n source) (of_aggregate s.dimensions places sides)) (same_schema n source) ∙ same_needs n source (of_aggregate (schema_of source).dimensions places sides)
+same_needs n (sorted source keys schema) sides =
+    ap (λ (s : Schema). needs (numbered n source) (all_places s.dimensions)) (same_schema n source) ∙ same_needs n source (all_places (schema_of source).dimensions)
+same_needs n (ranked source x dims) sides =
+    ap (λ (s : Schema). needs (numbered n source) (of_rank s.dimensions dims sides)) (same_schema n source) ∙ same_needs n source (of_rank (schema_of source).dimensions dims sides)
+same_needs n (cumulated source gs d) sides =
+    ap (λ (s : Schema). needs (numbered n source) (of_cumulate s.dimensions d sides)) (same_schema n source) ∙ same_needs n source (of_cumulate (schema_of source).dimensions d sides)
+same_needs n (transposed source) sides = same_needs n source (of_transpose sides)
+same_needs n (reversed source) sides =
+    ap (λ (s : Schema). needs (numbered n source) (of_reverse s.dimensions sides)) (same_schema n source) ∙ same_needs n source (of_reverse (schema_of source).dimensions sides)
+same_needs n (unpacked source schema) sides =
+    ap (λ (s : Schema). needs (numbered n source) (all_places s.dimensions)) (same_schema n source) ∙ same_needs n source (all_places (schema_of source).dimensions)
+same_needs n (xgridded source sizes) sides =
+    ap (λ (s : Schema). needs (numbered n source) (of_xgrid s.dimensions sizes sides)) (same_schema n source) ∙ same_needs n source (of_xgrid (schema_of source).dimensions sizes sides)
+same_needs n (merged left right) sides =
+    of_two (λ (x y : List Bounds). x ++ y) (needs (numbered n left) sides) (needs left sides) (needs (numbered (n + length (leaves left)) right) sides) (needs right sides)
+    (same_needs n left sides) (same_needs (n + length (leaves left)) right sides)
+same_needs n (concatenated left right) sides =
+    let m = n + length (leaves left) in
+    let ls : Sides = of_front (schema_of left).dimensions sides in
+    let rs : Sides = of_behind (schema_of left).dimensions (schema_of right).dimensions sides in
+    of_two (λ (x y : List Bounds). x ++ y) (needs (numbered n left) (of_front (schema_of (numbered n left)).dimensions sides)) (needs left ls)
+    (needs (numbered m right) (of_behind (schema_of (numbered n left)).dimensions (schema_of (numbered m right)).dimensions sides)) (needs right rs)
+    (ap (λ (s : Schema). needs (numbered n left) (of_front s.dimensions sides)) (same_schema n left) ∙ same_needs n left ls)
+    (of_two (λ (s t : Schema). needs (numbered m right) (of_behind s.dimensions t.dimensions sides)) (schema_of (numbered n left)) (schema_of left) (schema_of (numbered m right)) (schema_of right) (same_schema n left) (same_schema m right)
+    ∙ same_needs m right rs)
 
 -- ---- types
 
@@ -168,6 +234,20 @@ typed n (windowed source reach gs) t =
     (typed n source t.0, of_source n source (λ s. IsTrue (are_windows_of s reach && are_aggregates_of s.attributes gs)) t.1, of_source n source (λ s. IsValid (window_schema gs s)) t.2)
 typed n (aggregated source gs places) t =
     (typed n source t.0, of_source n source (λ s. IsTrue (are_below (length s.dimensions) places && are_aggregates_of s.attributes gs)) t.1, of_source n source (λ s. IsValid (aggregate_schema gs places s)) t.2)
+typed n (sorted source keys schema) t =
+    (typed n source t.0, of_source n source (λ s. IsTrue (are_keys_of s.attributes keys)) t.1, of_source n source (λ s. schema ≡ sort_schema s) t.2, t.3)
+typed n (ranked source x dims) t = (typed n source t.0, of_source n source (λ s. IsTrue (ranks s x dims)) t.1, of_source n source (λ s. IsValid (rank_schema x s)) t.2)
+typed n (cumulated source gs d) t = (typed n source t.0, of_source n source (λ s. IsTrue (cumulates s gs d)) t.1, of_source n source (λ s. IsValid (cumulate_schema gs s)) t.2)
+typed n (transposed source) t = (typed n source t.0, of_source n source (λ s. IsValid (transpose_schema s)) t.1)
+typed n (reversed source) t = (typed n source t.0, of_source n source (λ s. IsTrue (are_bounded s.dimensions)) t.1)
+typed n (unpacked source schema) t = (typed n source t.0, of_source n source (λ s. schema ≡ unpack_schema (first_name schema.dimensions) s) t.1, t.2)
+typed n (xgridded source sizes) t = (typed n source t.0, of_source n source (λ s. IsTrue (enlarges s sizes)) t.1, of_source n source (λ s. IsValid (xgrid_schema sizes s)) t.2)
+typed n (merged left right) t =
+    let m = n + length (leaves left) in
+    (typed n left t.0, typed m right t.1, of_sources n m left right (λ l r. IsTrue (merges l r)) t.2, of_sources n m left right (λ l r. IsValid (merge_schema l r)) t.3)
+typed n (concatenated left right) t =
+    let m = n + length (leaves left) in
+    (typed n left t.0, typed m right t.1, of_sources n m left right (λ l r. IsTrue (concatenates l r)) t.2, of_sources n m left right (λ l r. IsValid (concat_schema l r)) t.3)
 
 -- ---- meanings
 
@@ -213,3 +293,18 @@ same_meaning db rows n (redimensioned source schema gs) h = ap (redimensioned_fr
 same_meaning db rows n (regridded source sizes gs) h = ap (made (regrid_schema sizes gs) (λ s. regrid_rows (bounds_of s.dimensions).lo.items sizes gs)) (same_meaning db rows n source h)
 same_meaning db rows n (windowed source reach gs) h = ap (made (window_schema gs) (λ s. window_rows reach gs)) (same_meaning db rows n source h)
 same_meaning db rows n (aggregated source gs places) h = ap (made (aggregate_schema gs places) (λ s. aggregate_rows places gs)) (same_meaning db rows n source h)
+same_meaning db rows n (sorted source keys schema) h = ap (sorted_from keys schema) (same_meaning db rows n source h)
+same_meaning db rows n (ranked source x dims) h = ap (made (rank_schema x) (λ s. rank_rows x dims)) (same_meaning db rows n source h)
+same_meaning db rows n (cumulated source gs d) h = ap (made (cumulate_schema gs) (λ s. cumulate_rows d gs)) (same_meaning db rows n source h)
+same_meaning db rows n (transposed source) h = ap transpose_meant (same_meaning db rows n source h)
+same_meaning db rows n (reversed source) h = ap reverse_meant (same_meaning db rows n source h)
+same_meaning db rows n (unpacked source schema) h = ap (unpack_meant schema) (same_meaning db rows n source h)
+same_meaning db rows n (xgridded source sizes) h = ap (xgrid_meant sizes) (same_meaning db rows n source h)
+same_meaning db rows n (merged left right) h =
+    let both = both_sides db rows n (leaves left) (leaves right) h in
+    let m = n + length (leaves left) in
+    of_two merge_meant (meaning rows (numbered n left)) (meaning db left) (meaning rows (numbered m right)) (meaning db right) (same_meaning db rows n left both.0) (same_meaning db rows m right both.1)
+same_meaning db rows n (concatenated left right) h =
+    let both = both_sides db rows n (leaves left) (leaves right) h in
+    let m = n + length (leaves left) in
+    of_two concat_meant (meaning rows (numbered n left)) (meaning db left) (meaning rows (numbered m right)) (meaning db right) (same_meaning db rows n left both.0) (same_meaning db rows m right both.1)

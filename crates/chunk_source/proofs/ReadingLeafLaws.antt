@@ -30,19 +30,19 @@ few_places schema e =
     let same = size_is_volume dims in
     omega arith
 
-core_sized : (dims : List Dimension) (k : ChunkNumber) → has_core dims k ≡ true → length k ≡ length dims
+pub core_sized : (dims : List Dimension) (k : ChunkNumber) → has_core dims k ≡ true → length k ≡ length dims
 core_sized [] [] e = refl
 core_sized [] (n ∷ k) e = cc
 core_sized (d ∷ dims) [] e = cc
 core_sized (d ∷ dims) (n ∷ k) e = ap suc (core_sized dims k (and_parts _ (has_core dims k) e).1)
 
-stored_numbers : (schema : Schema) (listed : List (ArrayVec ℕ)) (chunks : List Chunk) → AllZip (IsStored schema) listed chunks → numbers chunks ≡ numbers_of listed
+pub stored_numbers : (schema : Schema) (listed : List (ArrayVec ℕ)) (chunks : List Chunk) → AllZip (IsStored schema) listed chunks → numbers chunks ≡ numbers_of listed
 stored_numbers schema [] [] a = refl
 stored_numbers schema [] (c ∷ chunks) a = absurd a
 stored_numbers schema (k ∷ listed) [] a = absurd a
 stored_numbers schema (k ∷ listed) (c ∷ chunks) a = ap (λ at. at.items ∷ numbers chunks) a.0.number ∙ ap (λ ks. k.items ∷ ks) (stored_numbers schema listed chunks a.1)
 
-stored_placed : (schema : Schema) (listed : List (ArrayVec ℕ)) (chunks : List Chunk) → AllZip (IsStored schema) listed chunks → AllByRecursion (HasPlaces schema (overlaps schema.dimensions)) chunks
+pub stored_placed : (schema : Schema) (listed : List (ArrayVec ℕ)) (chunks : List Chunk) → AllZip (IsStored schema) listed chunks → AllByRecursion (HasPlaces schema (overlaps schema.dimensions)) chunks
 stored_placed schema [] [] a = tt
 stored_placed schema [] (c ∷ chunks) a = absurd a
 stored_placed schema (k ∷ listed) [] a = absurd a
@@ -55,11 +55,14 @@ stored_sized schema [] (c ∷ chunks) a = absurd a
 stored_sized schema (k ∷ listed) [] a = absurd a
 stored_sized schema (k ∷ listed) (c ∷ chunks) a = (core_sized schema.dimensions c.at.items a.0.valid.framed.core, stored_sized schema listed chunks a.1)
 
-pub have_places : (schema : Schema) (margins : List ℕ) (listed : List (ArrayVec ℕ)) (chunks : List Chunk) → margins ≡ overlaps schema.dimensions → IsValid schema → AllZip (IsStored schema) listed chunks → HavePlaces schema margins chunks
-have_places schema margins listed chunks e valid stored = rw e (record {
+pub have_places : (schema : Schema) (margins : List ℕ) (listed : List (ArrayVec ℕ)) (chunks : List Chunk) → margins ≡ overlaps schema.dimensions → IsValid schema → NumbersRise (numbers_of listed) → AllZip (IsStored schema) listed chunks
+    → HavePlaces schema margins chunks
+have_places schema margins listed chunks e valid rising stored = rw e (record {
   valid = valid;
   each = each_overlap schema.dimensions;
   places = few_places schema valid;
+  rising = subst NumbersRise (sym (stored_numbers schema listed chunks stored)) rising;
+  sized = stored_sized schema listed chunks stored;
   all = stored_placed schema listed chunks stored;
 })
 

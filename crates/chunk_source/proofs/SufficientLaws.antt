@@ -14,7 +14,10 @@ use Rattle.logical_plan.specs.Meaning.{Database, version_rows}
 use Rattle.logical_plan.specs.PlanSchema.{schema_of}
 use Rattle.logical_plan.specs.Query.{Query, built, listed, scanned, filtered, applied, projected, between, subarray}
 use Rattle.logical_plan.specs.Query.{sliced, joined, crossed, redimensioned, regridded, windowed, aggregated}
+use Rattle.logical_plan.specs.Query.{sorted, ranked, cumulated, transposed, reversed, unpacked, xgridded, merged, concatenated}
 use Rattle.plan_needs.specs.Needs.{is_scan, needs}
+use Rattle.plan_needs.specs.OrderSides.{of_cumulate, of_rank}
+use Rattle.plan_needs.specs.ShapeSides.{of_behind, of_front, of_reverse, of_transpose, of_xgrid}
 use Rattle.plan_needs.specs.Sides.{Sides, of_aggregate, of_between, of_left, of_regrid, of_right, of_slice, of_subarray, of_window, sides_of, whole}
 use Rattle.plan_needs.specs.Wanted.{AreAlikeAt, HaveAlike, wanted_of, whole_need}
 use Rattle.plan_needs.proofs.AlikePlans.{needs_are_sufficient}
@@ -67,6 +70,23 @@ a_need_each (redimensioned source schema gs) sides = a_need_each source (whole (
 a_need_each (regridded source sizes gs) sides = a_need_each source (of_regrid (schema_of source).dimensions sizes sides)
 a_need_each (windowed source reach gs) sides = a_need_each source (of_window (is_scan source) (schema_of source).dimensions reach sides)
 a_need_each (aggregated source gs places) sides = a_need_each source (of_aggregate (schema_of source).dimensions places sides)
+a_need_each (sorted source keys schema) sides = a_need_each source (whole (schema_of source).dimensions)
+a_need_each (ranked source x dims) sides = a_need_each source (of_rank (schema_of source).dimensions dims sides)
+a_need_each (cumulated source gs n) sides = a_need_each source (of_cumulate (schema_of source).dimensions n sides)
+a_need_each (transposed source) sides = a_need_each source (of_transpose sides)
+a_need_each (reversed source) sides = a_need_each source (of_reverse (schema_of source).dimensions sides)
+a_need_each (unpacked source schema) sides = a_need_each source (whole (schema_of source).dimensions)
+a_need_each (xgridded source sizes) sides = a_need_each source (of_xgrid (schema_of source).dimensions sizes sides)
+a_need_each (merged left right) sides =
+    let l : length (needs left sides) ≡ length (leaves left) = a_need_each left sides in
+    let r : length (needs right sides) ≡ length (leaves right) = a_need_each right sides in
+    omega (arith, length-append (needs left sides) (needs right sides), length-append (leaves left) (leaves right))
+a_need_each (concatenated left right) sides =
+    let ls : Sides = of_front (schema_of left).dimensions sides in
+    let rs : Sides = of_behind (schema_of left).dimensions (schema_of right).dimensions sides in
+    let l : length (needs left ls) ≡ length (leaves left) = a_need_each left ls in
+    let r : length (needs right rs) ≡ length (leaves right) = a_need_each right rs in
+    omega (arith, length-append (needs left ls) (needs right rs), length-append (leaves left) (leaves right))
 
 pub whole_needs : (query : Query) → length (whole_need query) ≡ length (leaves query)
 whole_needs query = a_need_each query (sides_of (bounds_of (schema_of query).dimensions))

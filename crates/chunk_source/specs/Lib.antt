@@ -18,5 +18,4 @@ pub mod NumberLaws
 pub mod Numbered
 pub mod PartLaws
 pub mod Read
-pub mod Reading
 pub mod Source

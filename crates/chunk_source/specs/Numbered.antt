@@ -9,6 +9,7 @@ use Rattle.logical_plan.specs.Leaves.{leaves}
 use Rattle.logical_plan.specs.Meaning.{Database, version_rows}
 use Rattle.logical_plan.specs.Query.{Query, built, listed, scanned, filtered, applied, projected, between, subarray}
 use Rattle.logical_plan.specs.Query.{sliced, joined, crossed, redimensioned, regridded, windowed, aggregated}
+use Rattle.logical_plan.specs.Query.{sorted, ranked, cumulated, transposed, reversed, unpacked, xgridded, merged, concatenated}
 use Rattle.chunk_source.specs.Known.{known_for}
 
 -- a leaf whose name is its number
@@ -32,6 +33,15 @@ numbered n (redimensioned source schema gs) = redimensioned (numbered n source) 
 numbered n (regridded source sizes gs) = regridded (numbered n source) sizes gs
 numbered n (windowed source reach gs) = windowed (numbered n source) reach gs
 numbered n (aggregated source gs places) = aggregated (numbered n source) gs places
+numbered n (sorted source keys schema) = sorted (numbered n source) keys schema
+numbered n (ranked source x dims) = ranked (numbered n source) x dims
+numbered n (cumulated source gs d) = cumulated (numbered n source) gs d
+numbered n (transposed source) = transposed (numbered n source)
+numbered n (reversed source) = reversed (numbered n source)
+numbered n (unpacked source schema) = unpacked (numbered n source) schema
+numbered n (xgridded source sizes) = xgridded (numbered n source) sizes
+numbered n (merged left right) = merged (numbered n left) (numbered (n + length (leaves left)) right)
+numbered n (concatenated left right) = concatenated (numbered n left) (numbered (n + length (leaves left)) right)
 
 -- a database has these rows for the leaves from this number on
 abbrev pub HoldsAll : Database → ℕ → List (List Row) → Type 0

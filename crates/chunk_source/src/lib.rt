@@ -12,6 +12,6 @@ pub use leaves::{
     read_part,
 };
 pub use memory::{LeafArray, MemChunks, SureChunks};
-pub use reading::{ExecFault, read_leaf};
+pub use reading::ExecFault;
 pub use sources::{Asked, ChunkSource, SourceFault};
 pub use validity::{chunks_are_valid, sound_rows_have_sound_chunks};

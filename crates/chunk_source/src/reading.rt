@@ -5,4 +5,3 @@ mod leaf;
 
 pub use fault::ExecFault;
 pub(crate) use leaf::read_chunks;
-pub use leaf::read_leaf;

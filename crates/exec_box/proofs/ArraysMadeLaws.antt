@@ -65,10 +65,6 @@ slice_are_rows fixed array schema new e v h m =
 
 -- ---- what the calls hand on
 
-pub part_cut : (area : Bounds) (array : ChunkedArray) (rows : List Row) (box : Bounds) (r : Result (List Row) Memory) → box ≡ meet (bounds_of array.schema.dimensions) area
-    → rows ≡ cores_of array → IfOk r (λ parts. parts ≡ subarray_rows box rows) → IfOk r (λ parts. parts ≡ subarray_rows (meet (bounds_of array.schema.dimensions) area) (cores_of array))
-part_cut area array rows box r e m s = subst (λ (b : Bounds). IfOk r (λ parts. parts ≡ subarray_rows b (cores_of array))) e (subst (λ (rs : List Row). IfOk r (λ parts. parts ≡ subarray_rows box rs)) m s)
-
 pub stands_for : (r : Result ChunkedArray Memory) (a b : Meant) → a ≡ b → IfOk r (λ made. Is made a) → IfOk r (λ made. Is made b)
 stands_for r a b e h = subst (λ (m : Meant). IfOk r (λ made. Is made m)) e h
 

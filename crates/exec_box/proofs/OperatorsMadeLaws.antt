@@ -11,12 +11,12 @@ use Rattle.array_rows.specs.Arrays.{AreRowsOf}
 use Rattle.array_geom.specs.declared.chunk.Chunk.{Chunk}
 use Rattle.array_geom.specs.declared.chunk.ChunkedArray.{ChunkedArray}
 use Rattle.array_geom.specs.Geometry.{has_core, frame_lengths, volume}
-use Rattle.array_geom.specs.Link.{AreChunksOf, chunk_rows}
+use Rattle.array_geom.specs.Link.{AreChunksOf, chunk_rows, numbers}
 use Rattle.array_parts.specs.Made.{IsMadeBy, IsPlaced}
 use Rattle.array_parts.specs.Parts.{IsLocal, holds_cell}
 use Rattle.array_parts.specs.Placed.{HasPlaces, HavePlaces}
 use Rattle.array_parts.proofs.HeldLemmas.{places_made}
-use Rattle.array_parts.proofs.PartLemmas.{all_kept, chunks_are_parts, held_are_chunks, made_are_parts}
+use Rattle.array_parts.proofs.PartLemmas.{all_kept, chunks_are_parts, held_are_chunks, made_are_parts, numbers_passed, rising_passed}
 use Rattle.array_parts.specs.Cores.{HasCells, HaveCells}
 use Rattle.exec_box.specs.Made.{AreMadeOf, GivesRows, IsMadeOf}
 
@@ -47,6 +47,8 @@ places_over a b margins chunks e valid h = record {
   valid = valid;
   each = h.each ∙ ap (λ (z : List Dimension). length z) e;
   places = subst (λ (z : List Dimension). volume (frame_lengths z margins) ≤ 2 ^ 48) e h.places;
+  rising = h.rising;
+  sized = subst (λ (z : List Dimension). AllByRecursion (λ k. length k ≡ length z) (numbers chunks)) e h.sized;
   all = all_places a b margins chunks e valid h.all;
 }
 
@@ -71,6 +73,8 @@ module _ (operator : List Row → List Row) (from to : Schema) (margins : List �
           valid = places.valid;
           each = places.each;
           places = places.places;
+          rising = rising_passed (holds_cell from.dimensions margins) m.made places.rising;
+          sized = numbers_passed (λ k. length k ≡ length from.dimensions) (holds_cell from.dimensions margins) m.made places.sized;
           all = all_kept (HasPlaces from margins) (holds_cell from.dimensions margins) m.made places.all;
         });
         rows_of = all_kept (λ chunk. AreRowsOf to (chunk_rows to.dimensions margins chunk)) (holds_cell from.dimensions margins) m.made (rows_made old m.made gives h.rows_of m.each);

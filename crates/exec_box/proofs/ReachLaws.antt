@@ -181,14 +181,17 @@ core_long [] (n ∷ k) e = absurd cc
 core_long (d ∷ dims) [] e = absurd cc
 core_long (d ∷ dims) (n ∷ k) e = ap suc (core_long dims k (and_parts (int_le (first_in d n) d.hi) (has_core dims k) e).1)
 
+cores_sized : (schema : Schema) (listed : List (ArrayVec ℕ)) → HaveCores schema.dimensions listed → AllByRecursion (λ k. length k ≡ length schema.dimensions) (numbers_in listed)
+cores_sized schema listed cores =
+    all_follow (λ (k : ChunkNumber). has_core schema.dimensions k ≡ true) (λ (k : ChunkNumber). length k ≡ length schema.dimensions) (core_long schema.dimensions) (numbers_in listed) cores
+
 pub parts_of_numbers : (schema : Schema) (margins : List ℕ) (rows : List Row) (listed : List (ArrayVec ℕ)) (parts : List Chunk) → AllZip (IsPartAt schema margins rows) listed parts → NumbersRise (numbers_in listed) → HaveCores schema.dimensions listed
     → ((k : ChunkNumber) → length k ≡ length schema.dimensions → has_cell schema.dimensions rows k ≡ true → is_listed k (numbers_in listed) ≡ true) → AreParts schema.dimensions margins rows parts
 parts_of_numbers schema margins rows listed parts zip rise cores enough =
     let same : numbers parts ≡ numbers_in listed = numbers_are schema margins rows listed parts zip in
     record {
       in_order = subst NumbersRise (sym same) rise;
-      sized = subst (AllByRecursion (λ k. length k ≡ length schema.dimensions)) (sym same)
-          (all_follow (λ (k : ChunkNumber). has_core schema.dimensions k ≡ true) (λ (k : ChunkNumber). length k ≡ length schema.dimensions) (core_long schema.dimensions) (numbers_in listed) cores);
+      sized = subst (AllByRecursion (λ k. length k ≡ length schema.dimensions)) (sym same) (cores_sized schema listed cores);
       enough = λ k l h. ap (is_listed k) same ∙ enough k l h;
       parts = parts_each schema margins rows listed parts zip;
     }
@@ -200,8 +203,17 @@ places_each schema margins rows (k ∷ listed) [] h = absurd h
 places_each schema margins rows (k ∷ listed) (part ∷ parts) h = (h.0.places, places_each schema margins rows listed parts h.1)
 
 pub made_places : (schema : Schema) (margins : List ℕ) (rows : List Row) (listed : List (ArrayVec ℕ)) (parts : List Chunk) → IsValid schema → length margins ≡ length schema.dimensions → volume (frame_lengths schema.dimensions margins) ≤ 2 ^ 48
-    → AllZip (IsPartAt schema margins rows) listed parts → HavePlaces schema margins parts
-made_places schema margins rows listed parts valid each places zip = record { valid = valid; each = each; places = places; all = places_each schema margins rows listed parts zip }
+    → NumbersRise (numbers_in listed) → HaveCores schema.dimensions listed → AllZip (IsPartAt schema margins rows) listed parts → HavePlaces schema margins parts
+made_places schema margins rows listed parts valid each places rise cores zip =
+    let same : numbers parts ≡ numbers_in listed = numbers_are schema margins rows listed parts zip in
+    record {
+      valid = valid;
+      each = each;
+      places = places;
+      rising = subst NumbersRise (sym same) rise;
+      sized = subst (AllByRecursion (λ k. length k ≡ length schema.dimensions)) (sym same) (cores_sized schema listed cores);
+      all = places_each schema margins rows listed parts zip;
+    }
 
 pub each_accepted : (schema : Schema) (margins : List ℕ) (A : ArrayVec ℕ → Type 0) (listed : List (ArrayVec ℕ)) → IsValid schema → length margins ≡ length schema.dimensions → volume (frame_lengths schema.dimensions margins) ≤ 2 ^ 48
     → ((n : ArrayVec ℕ) → HasFrame schema margins n.items → A n) → HaveCores schema.dimensions listed → AllByRecursion A listed

@@ -7,6 +7,6 @@ mod chunks;
 mod columns;
 
 pub use arrays::{apply, filter, project};
-pub use build::{built_array, built_rows};
+pub use build::built_array;
 pub use chunks::{apply_chunk, filter_chunk, project_chunk};
 pub use columns::walk;

@@ -173,29 +173,27 @@ one_apart at schema margins (chunk ∷ chunks) v s r = (later chunks s.1 r.0, on
     )
 
 pub whole_groups : (gs : List Aggregate) (places : List ℕ) (schema : Schema) (margins : List ℕ) (chunks : List Chunk) (answer : Result Groups Memory) → HaveCells schema margins chunks → has_parts places chunks ≡ true
-    → NumbersRise (numbers chunks) → AllByRecursion (λ k. length k ≡ length schema.dimensions) (numbers chunks)
     → (AreAllApart (sets_of places schema.dimensions margins chunks) → IfOk answer (λ all. AreGroupsOf gs (all_sets (sets_of places schema.dimensions margins chunks)) all.groups))
     → IfOk answer (λ all. AreGroupsOf gs (aggregate_sets places (core_rows schema.dimensions margins chunks)) all.groups)
-whole_groups gs [] schema margins [] answer h some rise sized f = absurd (false≢true some)
-whole_groups gs [] schema margins (chunk ∷ chunks) answer h some rise sized f =
+whole_groups gs [] schema margins [] answer h some f = absurd (false≢true some)
+whole_groups gs [] schema margins (chunk ∷ chunks) answer h some f =
     IfOk-weaker answer _ _
     (λ all own. same_sets gs (all_sets (sets_of [] schema.dimensions margins (chunk ∷ chunks))) (aggregate_sets [] (core_rows schema.dimensions margins (chunk ∷ chunks))) all.groups
     (one_of_cores (pos 0 ∷ []) schema.dimensions margins chunk chunks (cores_rise schema margins (chunk ∷ chunks) h)) own)
-    (f (one_apart (pos 0 ∷ []) schema margins (chunk ∷ chunks) h.placed.valid sized rise))
-whole_groups gs (place ∷ places) schema margins chunks answer h some rise sized f =
+    (f (one_apart (pos 0 ∷ []) schema margins (chunk ∷ chunks) h.placed.valid h.placed.sized h.placed.rising))
+whole_groups gs (place ∷ places) schema margins chunks answer h some f =
     let group = numbers_at (place ∷ places) in
     IfOk-weaker answer _ _
     (λ all own. same_sets gs (all_sets (sets_of (place ∷ places) schema.dimensions margins chunks)) (aggregate_sets (place ∷ places) (core_rows schema.dimensions margins chunks)) all.groups
     (sets_of_cores group schema.dimensions margins chunks (cores_rise schema margins chunks h)) own)
-    (f (cores_apart group schema margins chunks h.placed.valid sized rise))
+    (f (cores_apart group schema margins chunks h.placed.valid h.placed.sized h.placed.rising))
 
 pub whole_blocks : (gs : List Aggregate) (sizes : List ℕ) (schema : Schema) (margins : List ℕ) (chunks : List Chunk) (answer : Result Groups Memory) → HaveCells schema margins chunks
-    → NumbersRise (numbers chunks) → AllByRecursion (λ k. length k ≡ length schema.dimensions) (numbers chunks)
     → (AreAllApart (block_sets_of sizes schema.dimensions margins chunks) → IfOk answer (λ all. AreGroupsOf gs (all_sets (block_sets_of sizes schema.dimensions margins chunks)) all.groups))
     → IfOk answer (λ all. AreGroupsOf gs (regrid_sets schema.dimensions sizes (core_rows schema.dimensions margins chunks)) all.groups)
-whole_blocks gs sizes schema margins chunks answer h rise sized f =
+whole_blocks gs sizes schema margins chunks answer h f =
     let group = block_at schema.dimensions sizes in
     IfOk-weaker answer _ _
     (λ all own. same_sets gs (all_sets (block_sets_of sizes schema.dimensions margins chunks)) (regrid_sets schema.dimensions sizes (core_rows schema.dimensions margins chunks)) all.groups
     (sets_of_cores group schema.dimensions margins chunks (cores_rise schema margins chunks h)) own)
-    (f (cores_apart group schema margins chunks h.placed.valid sized rise))
+    (f (cores_apart group schema margins chunks h.placed.valid h.placed.sized h.placed.rising))

@@ -1,40 +1,62 @@
 -- Groups of chunks that were found part by part.
-use Rattle.std.proofs.Common.{◌≡◌, ℕ, ℤ, ◌≤◌, Bool, true, false, cond, List, [], ◌∷◌, ◌++◌, length, sym, subst, arith}
+use Rattle.std.proofs.Common.{◌≡◌, ℕ, ℤ, ◌≤◌, Bool, true, false, cond, List, [], ◌∷◌, ◌++◌, length, refl, sym, ap, ◌∙◌, subst, arith}
 use Rattle.std.proofs.lemmas.List.{append-nil}
 use Rattle.std.specs.List.{AllByRecursion, AllZip}
 use Rattle.cell_values.specs.declared.schema.Dimension.{Dimension}
 use Rattle.cell_values.specs.declared.schema.Schema.{Schema}
 use Rattle.array_geom.specs.declared.chunk.Chunk.{Chunk}
-use Rattle.array_parts.specs.Cores.{HaveCells}
+use Rattle.array_geom.specs.declared.chunk.ChunkedArray.{ChunkedArray}
+use Rattle.array_parts.specs.Cores.{HaveCells, cores_of}
 use Rattle.array_parts.specs.Placed.{HasPlaces}
 use Rattle.array_rows.specs.Arrays.{AreRowsOf}
 use Rattle.cell_values.specs.declared.datum.Cell.{Cell}
+use Rattle.cell_values.specs.declared.datum.Row.{Row}
 use Rattle.cell_values.specs.declared.schema.Bounds.{Bounds}
 use Rattle.array_rows.specs.Boxes.{is_inside, within}
 use Rattle.array_rows.specs.Rows.{placed}
 use Rattle.array_geom.specs.Geometry.{coordinate_in, core, frame_low, frame_lengths}
-use Rattle.array_geom.specs.Link.{chunk_rows, rows_in}
+use Rattle.array_geom.specs.Link.{chunk_rows, core_rows, numbers, rows_in}
 use Rattle.group_rows.specs.Inner.Keys.{core_of}
 use Rattle.group_rows.specs.Counts.{cells_in_all}
 use Rattle.group_rows.specs.declared.rows.groups.Groups.{Groups}
 use Rattle.group_rows.specs.Grouped.{ArePartsOf}
 use Rattle.logical_plan.specs.declared.parts.Aggregate.{Aggregate}
-use Rattle.exec_group.specs.Inner.Parts.{IsPartOf, IsBlockPartOf, sets_of, block_sets_of, cells_held}
+use Rattle.exec_group.specs.Inner.Parts.{IsPartOf, IsBlockPartOf, sets_of, block_sets_of, cells_held, has_parts}
+
+-- there are no chunks, where there is no part
+pub no_parts : (places : List ℕ) (chunks : List Chunk) → has_parts places chunks ≡ false → chunks ≡ []
+no_parts [] [] e = refl
+no_parts [] (chunk ∷ chunks) e = cc
+no_parts (place ∷ places) chunks e = cc
+
+pub no_rows : (array : ChunkedArray) (rows : List Row) → array.chunks ≡ [] → rows ≡ [] → rows ≡ cores_of array
+no_rows array rows none e = e ∙ ap (core_rows array.schema.dimensions array.margins.items) (sym none)
 
 -- each chunk of an array has cells by itself
 pub each_has_cells : (schema : Schema) (margins : List ℕ) (chunks : List Chunk) → HaveCells schema margins chunks → AllByRecursion (λ chunk. HaveCells schema margins (chunk ∷ [])) chunks
-each_has_cells schema margins chunks h = go chunks h.placed.all h.rows_of
+each_has_cells schema margins chunks h = go chunks h.placed.sized h.placed.all h.rows_of
   where
-    go : (some : List Chunk) → AllByRecursion (HasPlaces schema margins) some → AllByRecursion (λ chunk. AreRowsOf schema (chunk_rows schema.dimensions margins chunk)) some
+    go : (some : List Chunk) → AllByRecursion (λ k. length k ≡ length schema.dimensions) (numbers some) → AllByRecursion (HasPlaces schema margins) some → AllByRecursion (λ chunk. AreRowsOf schema (chunk_rows schema.dimensions margins chunk)) some
         → AllByRecursion (λ chunk. HaveCells schema margins (chunk ∷ [])) some
-    go [] p r = tt
-    go (chunk ∷ some) p r = (
+    go [] s p r = tt
+    go (chunk ∷ some) s p r = (
       record {
-        placed = record { valid = h.placed.valid; each = h.placed.each; places = h.placed.places; all = (p.0, tt) };
+        placed = record {
+          valid = h.placed.valid;
+          each = h.placed.each;
+          places = h.placed.places;
+          rising = (tt, tt);
+          sized = (s.0, tt);
+          all = (p.0, tt);
+        };
         rows_of = (r.0, tt);
       },
-      go some p.1 r.1,
+      go some s.1 p.1 r.1,
     )
+
+pub each_with : (P : Chunk → Type 0) (Q : Type 0) (chunks : List Chunk) → AllByRecursion P chunks → Q → AllByRecursion (λ chunk. P chunk × Q) chunks
+each_with P Q [] a q = tt
+each_with P Q (chunk ∷ chunks) a q = ((a.0, q), each_with P Q chunks a.1 q)
 
 pub parts_found : (gs : List Aggregate) (places : List ℕ) (dims : List Dimension) (margins : List ℕ) (chunks : List Chunk) (parts : List Groups)
     → AllZip (IsPartOf gs places dims margins) chunks parts → ArePartsOf gs (sets_of places dims margins chunks) parts

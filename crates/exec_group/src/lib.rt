@@ -1,7 +1,6 @@
 //! `aggregate` and `regrid`: the groups of chunks, and of whole arrays chunk by chunk.
 #![tactic(auto)]
 
-mod arrays;
 mod parts;
 mod pieces;
 

@@ -3,5 +3,6 @@ pub mod CrossPieceLaws
 pub mod FrontLaws
 pub mod JoinLaws
 pub mod MadeLaws
+pub mod MeetLaws
 pub mod PieceLaws
 pub mod SideLaws

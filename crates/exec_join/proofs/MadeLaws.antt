@@ -55,7 +55,3 @@ means_right rows_of schema left right broken l r =
 
 pub stands_for : (r : Result ChunkedArray Memory) (a b : Meant) → a ≡ b → IfOk r (λ made. Is made a) → IfOk r (λ made. Is made b)
 stands_for r a b e h = subst (λ (m : Meant). IfOk r (λ made. Is made m)) e h
-
-pub joined : (left right : ChunkedArray) (left_rows right_rows rows : List Row) → left_rows ≡ cores_of left → right_rows ≡ cores_of right → HaveCells left.schema left.margins.items left.chunks → HaveCells right.schema right.margins.items right.chunks
-    → (IsRising left_rows → IsRising right_rows → rows ≡ join_rows left_rows right_rows) → rows ≡ join_rows left_rows right_rows
-joined left right left_rows right_rows rows e f h k m = m (of_cores left left_rows e h).are_rows.rising (of_cores right right_rows f k).are_rows.rising

@@ -96,20 +96,21 @@ joined_frame left right schema old margins chunk e placed frames =
 
 -- each number is that of a chunk that can be joined
 pub can_join : (left right : ChunkedArray) (schema : Schema) (margins : List ℕ) (ks : List (ArrayVec ℕ)) → ks ≡ map (λ chunk. chunk.at) left.chunks → schema ≡ join_schema left.schema right.schema → HasFrames schema margins
-    → HaveCells left.schema left.margins.items left.chunks → HaveCells right.schema right.margins.items right.chunks → NumbersRise (numbers left.chunks) → NumbersRise (numbers right.chunks)
-    → AllByRecursion (λ number. HaveCells left.schema left.margins.items left.chunks × HaveCells right.schema right.margins.items right.chunks × NumbersRise (numbers left.chunks) × NumbersRise (numbers right.chunks) × HasFrame schema margins number.items) ks
-can_join left right schema margins ks e same frames on_left on_right rises also =
-    let can : ArrayVec ℕ → Type 0 = λ number. HaveCells left.schema left.margins.items left.chunks × HaveCells right.schema right.margins.items right.chunks × NumbersRise (numbers left.chunks) × NumbersRise (numbers right.chunks) × HasFrame schema margins number.items in
+    → HaveCells left.schema left.margins.items left.chunks → HaveCells right.schema right.margins.items right.chunks
+    → AllByRecursion (λ number. HaveCells left.schema left.margins.items left.chunks × HaveCells right.schema right.margins.items right.chunks × HasFrame schema margins number.items) ks
+can_join left right schema margins ks e same frames on_left on_right =
+    let can : ArrayVec ℕ → Type 0 = λ number. HaveCells left.schema left.margins.items left.chunks × HaveCells right.schema right.margins.items right.chunks × HasFrame schema margins number.items in
     subst (λ (z : List (ArrayVec ℕ)). AllByRecursion can z) (sym e)
-    (each_number can (HasPlaces left.schema left.margins.items) (λ chunk placed. (on_left, on_right, rises, also, joined_frame left.schema right.schema schema left.margins.items margins chunk same placed frames)) left.chunks on_left.placed.all)
+    (each_number can (HasPlaces left.schema left.margins.items) (λ chunk placed. (on_left, on_right, joined_frame left.schema right.schema schema left.margins.items margins chunk same placed frames)) left.chunks on_left.placed.all)
 
 -- the parts of joined rows, one for each left chunk
 pub joined_parts : (left right schema : Schema) (old margins : List ℕ) (rows other : List Row) (chunks parts : List Chunk) → schema ≡ join_schema left right → rows ≡ core_rows left.dimensions old chunks → HaveCells left old chunks → numbers parts ≡ numbers chunks
-    → NumbersRise (numbers chunks) → AllByRecursion (λ k. length k ≡ length left.dimensions) (numbers chunks) → AllByRecursion (IsPart schema.dimensions margins (join_rows rows other)) parts → AreParts schema.dimensions margins (join_rows rows other) parts
-joined_parts left right schema old margins rows other chunks parts e same cells n rise sized each =
+    → AllByRecursion (IsPart schema.dimensions margins (join_rows rows other)) parts → AreParts schema.dimensions margins (join_rows rows other) parts
+joined_parts left right schema old margins rows other chunks parts e same cells n each =
+    let sized = cells.placed.sized in
     let r = renamed left right schema e in
     let long : length schema.dimensions ≡ length left.dimensions = ap length r.same ∙ as_many left.dimensions r.names r.enough in
-    changed_parts schema.dimensions margins (λ c cell. option_map (cell_beside cell) (cell_at other c)) rows chunks parts n rise (subst (λ (m : ℕ). AllByRecursion (λ k. length k ≡ m) (numbers chunks)) (sym long) sized)
+    changed_parts schema.dimensions margins (λ c cell. option_map (cell_beside cell) (cell_at other c)) rows chunks parts n cells.placed.rising (subst (λ (m : ℕ). AllByRecursion (λ k. length k ≡ m) (numbers chunks)) (sym long) sized)
     (λ k l h. core_listed left.dimensions old chunks k (valid_placed left cells.placed.valid).near sized (l ∙ long)
     (ap (λ (rs : List Row). has_cell left.dimensions rs k) (sym same) ∙ ap (λ (b : Bounds). is_not_empty (within b rows)) (sym (joined_cores left right schema k e)) ∙ h))
     each

@@ -1,10 +1,10 @@
 //! Joins of arrays.
 
-mod building;
 mod cross_numbers;
 mod cross_pieces;
 mod crossed;
 mod joined;
+mod meeting;
 mod pieces;
 
 pub use crossed::cross_join;

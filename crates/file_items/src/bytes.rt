@@ -6,4 +6,4 @@ mod writing;
 
 pub use fields::{bytes_at, u8_at, u16_at, u32_at, u64_at};
 pub use stop::Stop;
-pub use writing::{put_u16, put_u32, put_u64};
+pub use writing::{put_u32, put_u64};

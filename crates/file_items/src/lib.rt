@@ -5,7 +5,7 @@ mod bytes;
 mod page_lists;
 mod schemas;
 
-pub use bytes::{Stop, bytes_at, put_u16, put_u32, put_u64, u8_at, u16_at, u32_at, u64_at};
+pub use bytes::{Stop, bytes_at, put_u32, put_u64, u8_at, u16_at, u32_at, u64_at};
 pub use cell_values::{
     Bytes, ChunkAt, Copies, List, Memory, Name, Schema, compare_numbers, copy_numbers,
 };

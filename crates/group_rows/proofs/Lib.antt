@@ -1,4 +1,5 @@
 pub mod ColumnLaws
+pub mod CumulatedLaws
 pub mod FormLaws
 pub mod InsideLaws
 pub mod KeyLaws
@@ -6,8 +7,10 @@ pub mod KindLaws
 pub mod MergeLaws
 pub mod PartsPartLaws
 pub mod PlaceLaws
+pub mod RankedLaws
 pub mod RowLemmas
 pub mod RowsPartLaws
+pub mod SortedLaws
 pub mod StateLaws
 pub mod TakenLaws
 pub mod ToldLaws

@@ -5,7 +5,7 @@ mod by_keys;
 mod keys;
 mod named;
 
-pub use by_keys::{aggregate_groups, regrid_groups};
+pub use by_keys::aggregate_groups;
 pub use keys::Grouping;
 pub(crate) use keys::key_at;
 pub use named::zero;

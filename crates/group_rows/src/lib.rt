@@ -9,7 +9,7 @@ mod runs;
 mod told;
 
 pub use cores::rows_of_cores;
-pub use grouping::{Grouping, aggregate_groups, regrid_groups, zero};
+pub use grouping::{Grouping, aggregate_groups, zero};
 pub use places::groups_of_places;
 pub use rows::{
     Group, Groups, groups_in, groups_of, merge_all, merge_two, one_group, one_of_columns, take_rows,

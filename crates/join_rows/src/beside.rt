@@ -28,6 +28,13 @@ pub(crate) fn beside(left: Cell, right: Cell) -> Result<Cell, Memory>
     }
 }
 
+/// Two cells side by side: the doubt of the left one, else that of the right one, else the values of both.
+pub fn cell_beside(left: Cell, right: Cell) -> Result<Cell, Memory>
+    ensures { IfOk result (λ cell. cell ≡ cell_beside left right) }
+{
+    beside(left, right)
+}
+
 fn push_copies(values: &mut List<Datum>, more: &[Datum]) -> Result<(), Memory>
     ensures { OnOk result (values.new ≡ values.old ++ more.now) }
 {

@@ -1,5 +1,5 @@
 -- The cells of a typed plan are those of an array of its schema.
-use Rattle.std.proofs.Common.{◌≡◌, ℕ, zero, suc, ℤ, Bool, true, false, cond, List, [], ◌∷◌, ◌++◌, map, length, Option, Some, None, Result, Ok, Err, refl, sym, ap, ◌∙◌, subst, arith}
+use Rattle.std.proofs.Common.{◌≡◌, ℕ, zero, suc, Bool, true, false, cond, List, [], ◌∷◌, ◌++◌, map, length, Option, Some, None, Result, Ok, Err, refl, sym, ap, subst, arith}
 use Rattle.std.specs.Prelude.{◌&&◌, not, filter, int_le, nat_le, nat_lt, slice_get, slice_index_or, IfOk, IsTrue}
 use Rattle.std.specs.List.{AllByRecursion, AllZip, list_all, cons_option}
 use Rattle.cell_values.specs.declared.datum.Broken.{Broken}
@@ -12,7 +12,6 @@ use Rattle.cell_values.specs.declared.datum.Row.{Row}
 use Rattle.cell_values.specs.declared.schema.Attribute.{Attribute}
 use Rattle.cell_values.specs.declared.schema.Bounds.{Bounds}
 use Rattle.cell_values.specs.declared.schema.Dimension.{Dimension}
-use Rattle.cell_values.specs.declared.schema.Kind.{Kind}
 use Rattle.cell_values.specs.declared.schema.Schema.{Schema}
 use Rattle.cell_values.specs.Cells.{is_of_kind, AreOfKinds, IsCellOf}
 use Rattle.cell_values.specs.Nulls.{is_null}
@@ -36,7 +35,7 @@ use Rattle.logical_plan.specs.declared.parts.Leaf.{Leaf}
 use Rattle.logical_plan.specs.Leaves.{leaves}
 use Rattle.logical_plan.specs.Meaning.{Database, meaning, version_rows, built_rows, coordinates}
 use Rattle.logical_plan.specs.PlanSchema.{schema_of, derived, apply_schema, project_schema}
-use Rattle.logical_plan.specs.Query.{Query, built, listed, scanned, filtered, applied, projected, between, subarray, sliced, joined, crossed, redimensioned, regridded, windowed, aggregated}
+use Rattle.logical_plan.specs.Query.{Query, built, listed, scanned, filtered, applied, projected, between, subarray, sliced, joined, crossed, redimensioned, regridded, windowed, aggregated, sorted, ranked, cumulated, transposed, reversed, unpacked, xgridded, merged, concatenated}
 use Rattle.logical_plan.specs.Typing.{IsTyped, is_bounded, places_in, fits_one, fits_apply, is_over, is_null_alone, kinds_of, builds, are_below}
 use Rattle.logical_plan.proofs.BuiltRows.{all-map, all-follows, both, rows_rise, coordinates_rise, coordinates_inside, between_fits}
 
@@ -305,3 +304,12 @@ typed_arrays db (redimensioned source schema gs) k t l = cc
 typed_arrays db (regridded source sizes gs) k t l = cc
 typed_arrays db (windowed source reach gs) k t l = cc
 typed_arrays db (aggregated source gs places) k t l = cc
+typed_arrays db (sorted source keys schema) k t l = cc
+typed_arrays db (ranked source x dims) k t l = cc
+typed_arrays db (cumulated source gs n) k t l = cc
+typed_arrays db (transposed source) k t l = cc
+typed_arrays db (reversed source) k t l = cc
+typed_arrays db (unpacked source schema) k t l = cc
+typed_arrays db (xgridded source sizes) k t l = cc
+typed_arrays db (merged left right) k t l = cc
+typed_arrays db (concatenated left right) k t l = cc

@@ -1,18 +1,16 @@
 -- All coordinates of a box: they rise, and lie in the box.
-use Rattle.std.proofs.Common.{◌≡◌, ℕ, zero, suc, ◌+◌, ℤ, pos, negsuc, ◌+ℤ◌, ◌-ℤ◌, ◌≤ℤ◌, Bool, true, false, cond, List, [], ◌∷◌, ◌++◌, map, length, Option, Some, None, refl, sym, ap, ◌∙◌, subst, arith}
+use Rattle.std.proofs.Common.{◌≡◌, ℕ, zero, suc, ◌+◌, ℤ, pos, negsuc, ◌+ℤ◌, ◌-ℤ◌, ◌≤ℤ◌, Bool, true, false, cond, List, [], ◌∷◌, ◌++◌, map, refl, ap, ◌∙◌, arith}
 use Rattle.std.specs.Prelude.{◌&&◌, int_le, unsigned_abs}
-use Rattle.std.specs.List.{AllByRecursion, flat_map, list_all}
+use Rattle.std.specs.List.{AllByRecursion, flat_map}
 use Rattle.std.specs.declared.cmp.Ordering.TheVariants.{Less, Equal}
 use Rattle.std.specs.Ordering.{int_cmp, ordering_then}
 use Rattle.std.proofs.lemmas.Int.{ints}
 use Rattle.cell_values.specs.declared.datum.Cell.{Cell}
-use Rattle.cell_values.specs.declared.datum.Row.{Row}
 use Rattle.cell_values.specs.declared.schema.Dimension.{Dimension}
-use Rattle.cell_values.specs.Schemas.{is_bound, is_dimension}
+use Rattle.cell_values.specs.Schemas.{is_bound}
 use Rattle.cell_values.specs.Table.{fits_int64}
 use Rattle.array_rows.specs.Rows.{Coordinate, row_major, placed, IsRising}
-use Rattle.array_rows.specs.Boxes.{is_between, is_inside, bounds_of}
-use Rattle.array_rows.specs.Cellwise.{cell_wise, put_first}
+use Rattle.array_rows.specs.Boxes.{is_inside, bounds_of}
 use Rattle.logical_plan.specs.Meaning.{count_from, how_many, coordinates}
 
 -- ---- lists

@@ -1,5 +1,6 @@
 pub use Rattle.array_rows.proofs.RowSets
 pub use Rattle.array_rows.proofs.RowsLemmas
+pub mod ArityLaws
 pub mod ArrayLaws
 pub mod BuiltRows
 pub mod Items
@@ -9,5 +10,7 @@ mod Samples
 pub mod SchemaLaws
 mod Worked
 mod WorkedGroups
+mod WorkedOrders
 mod WorkedRows
+mod WorkedShapes
 mod WorkedTyping

@@ -1,6 +1,5 @@
 -- Words for small plans.
-use Rattle.std.proofs.Common.{ℕ, ℤ, pos, true, false, List, [], ◌∷◌, codes}
-use Rattle.cell_values.specs.declared.datum.CompareOp.{CompareOp}
+use Rattle.std.proofs.Common.{ℕ, ℤ, pos, true, List, [], ◌∷◌, codes}
 use Rattle.cell_values.specs.declared.datum.Datum.{Datum}
 use Rattle.cell_values.specs.declared.datum.Datum.TheVariants.{Int}
 use Rattle.cell_values.specs.declared.datum.Cell.TheVariants.{Full}
@@ -10,7 +9,7 @@ use Rattle.cell_values.specs.declared.datum.Row.{Row}
 use Rattle.cell_values.specs.declared.schema.Attribute.{Attribute}
 use Rattle.cell_values.specs.declared.schema.Dimension.{Dimension}
 use Rattle.cell_values.specs.declared.schema.Kind.{Kind}
-use Rattle.cell_values.specs.declared.schema.Kind.TheVariants.{Int64, Str, Bool as Truths}
+use Rattle.cell_values.specs.declared.schema.Kind.TheVariants.{Int64}
 use Rattle.cell_values.specs.declared.schema.Schema.{Schema}
 use Rattle.array_rows.specs.Rows.{placed}
 use Rattle.expr_nulls.specs.Expr.{Expr, literal, attribute_value, dimension_value}

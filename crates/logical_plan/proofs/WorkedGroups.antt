@@ -1,15 +1,15 @@
 -- Small results of aggregates, groups, windows and redimension, as the definitions compute them.
-use Rattle.std.proofs.Common.{◌≡◌, ℕ, ℤ, pos, negsuc, true, false, List, [], ◌∷◌, Some, None, Ok, Err, refl, codes}
+use Rattle.std.proofs.Common.{◌≡◌, pos, negsuc, false, [], ◌∷◌, Some, Ok, Err, refl, codes}
 use Rattle.cell_values.specs.declared.datum.CompareOp.TheVariants.{More, Differs}
-use Rattle.cell_values.specs.declared.datum.Datum.TheVariants.{Null, Missing, Int, Text, Bad}
+use Rattle.cell_values.specs.declared.datum.Datum.TheVariants.{Null, Missing, Int, Text}
 use Rattle.cell_values.specs.declared.datum.FaultKind.TheVariants.{Overflow, OutOfBounds, Collision, NullInNotNull}
 use Rattle.cell_values.specs.declared.schema.Kind.TheVariants.{Int64, Str}
 use Rattle.cell_values.specs.declared.schema.Schema.{Schema}
-use Rattle.expr_nulls.specs.Expr.{Expr, attribute_value, relation}
+use Rattle.expr_nulls.specs.Expr.{attribute_value, relation}
 use Rattle.logical_plan.specs.declared.parts.AggFunction.TheVariants.{Sum, Count, CountAll, Min, Max}
 use Rattle.logical_plan.specs.Faults.{fault_of}
-use Rattle.logical_plan.specs.Meaning.{Meant, meaning}
-use Rattle.logical_plan.specs.PlanSchema.{schema_of, default_name}
+use Rattle.logical_plan.specs.Meaning.{meaning}
+use Rattle.logical_plan.specs.PlanSchema.{default_name}
 use Rattle.logical_plan.specs.Query.{Query, built, listed, filtered, projected, redimensioned, regridded, windowed, aggregated}
 use Rattle.logical_plan.proofs.Samples.{nothing, number, v, x, int, at1, at2, broken_at, dim, attribute, numbers, along, line, over}
 

@@ -1,23 +1,21 @@
 -- Small results of operators that go cell by cell, of boxes and of joins, as the definitions compute them.
-use Rattle.std.proofs.Common.{◌≡◌, ℕ, ℤ, pos, negsuc, true, false, List, [], ◌∷◌, Some, None, Ok, Err, refl, codes}
+use Rattle.std.proofs.Common.{◌≡◌, pos, negsuc, true, false, [], ◌∷◌, Some, Ok, refl, codes}
 use Rattle.std.specs.Fmt.{digits}
 use Rattle.cell_values.specs.declared.datum.CompareOp.TheVariants.{Equal, More}
 use Rattle.cell_values.specs.declared.datum.Datum.TheVariants.{Null, Missing, Int, Truth, Bad}
-use Rattle.cell_values.specs.declared.datum.Cell.TheVariants.{Full, Doubt}
-use Rattle.cell_values.specs.declared.datum.FaultKind.TheVariants.{Overflow, DivideByZero, OutOfBounds, Collision, NullInNotNull}
-use Rattle.cell_values.specs.declared.datum.Row.{Row}
-use Rattle.cell_values.specs.declared.schema.Kind.TheVariants.{Int64, Bool as Truths}
+use Rattle.cell_values.specs.declared.datum.Cell.TheVariants.{Doubt}
+use Rattle.cell_values.specs.declared.datum.FaultKind.TheVariants.{Overflow, DivideByZero, OutOfBounds, NullInNotNull}
+use Rattle.cell_values.specs.declared.schema.Kind.TheVariants.{Int64}
 use Rattle.cell_values.specs.declared.schema.Schema.{Schema}
 use Rattle.array_rows.specs.Rows.{placed}
 use Rattle.array_rows.specs.Boxes.{corners}
 use Rattle.expr_nulls.specs.declared.expr.ArithOp.TheVariants.{Add, Mul, Div, Rem, Sub}
-use Rattle.expr_nulls.specs.Expr.{Expr, literal, attribute_value, dimension_value, minus, calculation, relation, conjunction, disjunction, conditional, null_code, coded_null}
+use Rattle.expr_nulls.specs.Expr.{literal, minus, calculation, relation, conjunction, disjunction, conditional, null_code, coded_null}
 use Rattle.logical_plan.specs.Faults.{fault_of}
-use Rattle.logical_plan.specs.CellOps.{fit_rows}
-use Rattle.logical_plan.specs.Meaning.{Meant, meaning}
+use Rattle.logical_plan.specs.Meaning.{meaning}
 use Rattle.logical_plan.specs.PlanSchema.{schema_of, join_schema, cross_schema}
 use Rattle.logical_plan.specs.Query.{Query, built, listed, scanned, filtered, applied, projected, between, subarray, sliced, joined, crossed}
-use Rattle.logical_plan.proofs.Samples.{nothing, number, v, x, y, int, at1, at2, broken_at, dim, attribute, numbers, along, line, computed}
+use Rattle.logical_plan.proofs.Samples.{nothing, number, v, x, y, int, at1, at2, broken_at, dim, numbers, along, line, computed}
 
 -- ---- filter and apply
 

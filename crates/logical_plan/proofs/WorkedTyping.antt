@@ -1,16 +1,15 @@
 -- Small plans that are typed, and tests of rules that fail.
-use Rattle.std.proofs.Common.{◌≡◌, pos, true, false, [], ◌∷◌, refl, codes}
+use Rattle.std.proofs.Common.{◌≡◌, pos, false, [], ◌∷◌, refl, codes}
 use Rattle.std.specs.Fmt.{digits}
 use Rattle.cell_values.specs.declared.datum.CompareOp.TheVariants.{More}
 use Rattle.cell_values.specs.declared.datum.Datum.TheVariants.{Null}
-use Rattle.cell_values.specs.declared.schema.Kind.TheVariants.{Int64, Str}
-use Rattle.cell_values.specs.declared.schema.Schema.{Schema}
+use Rattle.cell_values.specs.declared.schema.Kind.TheVariants.{Str}
 use Rattle.array_rows.specs.Boxes.{corners}
 use Rattle.expr_nulls.specs.declared.expr.ArithOp.TheVariants.{Add}
 use Rattle.expr_nulls.specs.Expr.{relation, literal, calculation}
 use Rattle.logical_plan.specs.declared.parts.AggFunction.TheVariants.{Sum, CountAll}
 use Rattle.logical_plan.specs.PlanSchema.{schema_of, join_schema}
-use Rattle.logical_plan.specs.Query.{Query, built, listed, scanned, filtered, applied, projected, between, subarray, sliced, joined, crossed, redimensioned, regridded, windowed, aggregated}
+use Rattle.logical_plan.specs.Query.{Query, built, listed, filtered, applied, projected, between, subarray, joined, crossed, redimensioned, regridded, windowed, aggregated}
 use Rattle.logical_plan.specs.Typing.{IsTyped, builds, fits_apply, redimensions, are_windows_of, is_aggregate_of}
 use Rattle.logical_plan.proofs.Samples.{number, v, x, int, at1, dim, attribute, numbers, along, line, computed, over}
 

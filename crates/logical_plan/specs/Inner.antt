@@ -1,1 +1,2 @@
+pub mod ByArity
 pub mod QueryView

@@ -2,6 +2,7 @@ pub use Rattle.array_rows.specs.Arrays
 pub use Rattle.array_rows.specs.Boxes
 pub use Rattle.array_rows.specs.Cellwise
 pub use Rattle.array_rows.specs.Rows
+pub mod Arity
 pub mod BoxOps
 pub mod CellOps
 pub mod Faults
@@ -11,9 +12,15 @@ pub mod Joins
 pub mod Laws
 pub mod Leaves
 pub mod Lemmas
+pub mod Made
 pub mod Meaning
+pub mod Ordered
+pub mod Places
 pub mod PlanSchema
 pub mod Query
 pub mod Reads
 pub mod Redimension
+pub mod ShapeMeant
+pub mod ShapeSchemas
+pub mod Shapes
 pub mod Typing

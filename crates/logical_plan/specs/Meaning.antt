@@ -1,9 +1,8 @@
 -- The meaning of a plan over a database.
-use Rattle.std.specs.Prelude.{ℕ, zero, suc, ◌+◌, ℤ, pos, ◌+ℤ◌, ◌-ℤ◌, int_le, unsigned_abs, if◌then◌else◌, List, [], ◌∷◌, map, Result, Ok, Err}
+use Rattle.std.specs.Prelude.{ℕ, zero, suc, List, [], ◌∷◌, map}
 use Rattle.std.specs.List.{flat_map}
 use Rattle.cell_values.specs.declared.datum.Cell.TheVariants.{Full}
 use Rattle.cell_values.specs.declared.datum.Row.{Row}
-use Rattle.cell_values.specs.declared.datum.Broken.{Broken}
 use Rattle.cell_values.specs.declared.schema.Dimension.{Dimension}
 use Rattle.cell_values.specs.declared.schema.Schema.{Schema}
 use Rattle.array_rows.specs.Rows.{Coordinate, placed}
@@ -14,13 +13,19 @@ use Rattle.expr_nulls.specs.ExprValue.{value_of}
 use Rattle.logical_plan.specs.declared.parts.Aggregate.{Aggregate}
 use Rattle.logical_plan.specs.BoxOps.{subarray_rows, slice_rows}
 use Rattle.logical_plan.specs.CellOps.{filter_rows, apply_rows, project_rows, fit_rows}
-use Rattle.logical_plan.specs.Faults.{if_whole, and_then}
+use Rattle.logical_plan.specs.Faults.{and_then}
 use Rattle.logical_plan.specs.Groups.{regrid_rows, window_rows, aggregate_rows}
 use Rattle.logical_plan.specs.Joins.{join_rows, cross_rows}
+pub use Rattle.logical_plan.specs.Made.{whole, made, made_numbers, made_of_two}
+use Rattle.logical_plan.specs.Ordered.{sort_rows, rank_rows, cumulate_rows}
+pub use Rattle.logical_plan.specs.Places.{count_from, how_many}
 use Rattle.logical_plan.specs.PlanSchema.{apply_schema, project_schema, subarray_schema, slice_schema, regrid_schema, window_schema, aggregate_schema}
+use Rattle.logical_plan.specs.PlanSchema.{rank_schema, cumulate_schema}
 use Rattle.logical_plan.specs.Query.{Query, built, listed, scanned, filtered, applied, projected, between, subarray}
 use Rattle.logical_plan.specs.Query.{sliced, joined, crossed, redimensioned, regridded, windowed, aggregated}
+use Rattle.logical_plan.specs.Query.{sorted, ranked, cumulated, transposed, reversed, unpacked, xgridded, merged, concatenated}
 use Rattle.logical_plan.specs.Redimension.{redimension_rows}
+use Rattle.logical_plan.specs.ShapeMeant.{transpose_meant, reverse_meant, unpack_meant, xgrid_meant, merge_meant, concat_meant}
 
 -- ---- databases
 
@@ -35,13 +40,6 @@ version_rows db name (suc n) = db name (suc n)
 
 -- ---- all coordinates of a box
 
-abbrev pub count_from : ℤ → ℕ → List ℤ
-count_from lo zero = []
-count_from lo (suc n) = lo ∷ count_from (lo +ℤ pos 1) n
-
-abbrev pub how_many : ℤ → ℤ → ℕ
-how_many lo hi = if int_le lo hi then unsigned_abs (hi -ℤ lo) + 1 else 0
-
 -- in row-major order
 abbrev pub coordinates : List Dimension → List Coordinate
 coordinates [] = [] ∷ []
@@ -53,21 +51,13 @@ built_rows schema e = fit_rows schema.attributes (map (λ c. placed c (Full (val
 
 -- ---- arrays
 
--- an array that is not broken
-abbrev pub whole : Schema → List Row → Meant
-whole schema rows = record { schema = schema; rows = Ok rows }
-
--- what an operator makes of its source: its schema, and its rows where the source is not broken
-abbrev pub made : (Schema → Schema) → (Schema → List Row → List Row) → Meant → Meant
-made schema rows source = record { schema = schema source.schema; rows = if_whole (rows source.schema) source.rows }
-
--- what an operator makes of two sources; of two broken ones the left one breaks the result
-abbrev pub made_of_two : Schema → (List Row → List Row → List Row) → Meant → Meant → Meant
-made_of_two schema rows left right = record { schema = schema; rows = and_then (λ l. if_whole (rows l) right.rows) left.rows }
-
 -- the source's cells at the places of another schema; some cell may break the result
 abbrev pub redimensioned_from : Schema → List Aggregate → Meant → Meant
 redimensioned_from schema gs source = record { schema = schema; rows = and_then (redimension_rows source.schema schema gs) source.rows }
+
+-- the source's cells in the order of their keys; some cell may break the result
+abbrev pub sorted_from : List ℕ → Schema → Meant → Meant
+sorted_from keys schema = made_numbers schema (sort_rows keys)
 
 -- ---- plans
 
@@ -87,3 +77,12 @@ meaning db (redimensioned source schema gs) = redimensioned_from schema gs (mean
 meaning db (regridded source sizes gs) = made (regrid_schema sizes gs) (λ s. regrid_rows (bounds_of s.dimensions).lo.items sizes gs) (meaning db source)
 meaning db (windowed source reach gs) = made (window_schema gs) (λ s. window_rows reach gs) (meaning db source)
 meaning db (aggregated source gs places) = made (aggregate_schema gs places) (λ s. aggregate_rows places gs) (meaning db source)
+meaning db (sorted source keys schema) = sorted_from keys schema (meaning db source)
+meaning db (ranked source x dims) = made (rank_schema x) (λ s. rank_rows x dims) (meaning db source)
+meaning db (cumulated source gs n) = made (cumulate_schema gs) (λ s. cumulate_rows n gs) (meaning db source)
+meaning db (transposed source) = transpose_meant (meaning db source)
+meaning db (reversed source) = reverse_meant (meaning db source)
+meaning db (unpacked source schema) = unpack_meant schema (meaning db source)
+meaning db (xgridded source sizes) = xgrid_meant sizes (meaning db source)
+meaning db (merged left right) = merge_meant (meaning db left) (meaning db right)
+meaning db (concatenated left right) = concat_meant (meaning db left) (meaning db right)

@@ -1,15 +1,16 @@
 -- The schema of a plan.
 use Rattle.std.specs.Prelude.{ℕ, zero, suc, ◌+◌, ℤ, pos, ◌-ℤ◌, if◌then◌else◌, true, List, [], ◌∷◌}
-use Rattle.std.specs.Prelude.{◌++◌, map, length, take, drop, slice_get, codes, Option, Some, None}
+use Rattle.std.specs.Prelude.{◌++◌, map, length, take, drop, slice_get, codes, Option, Some}
 use Rattle.std.specs.Int.{int_max, int_min, w64, saturate_signed}
 use Rattle.std.specs.Fmt.{decimal}
+use Rattle.std.specs.List.{flat_map}
 use Rattle.cell_values.specs.declared.schema.Attribute.{Attribute}
 use Rattle.cell_values.specs.declared.schema.Bounds.{Bounds}
 use Rattle.cell_values.specs.declared.schema.Dimension.{Dimension}
 use Rattle.cell_values.specs.declared.schema.Kind.{Kind}
 use Rattle.cell_values.specs.declared.schema.Kind.TheVariants.{Int64}
 use Rattle.cell_values.specs.declared.schema.Schema.{Schema}
-use Rattle.cell_values.specs.Schemas.{attribute_names, dimension_names, is_among}
+use Rattle.cell_values.specs.Schemas.{attribute_names, dimension_names, greatest_bound, is_among}
 use Rattle.array_rows.specs.Boxes.{by_pairs}
 use Rattle.logical_plan.specs.declared.parts.AggFunction.{AggFunction}
 use Rattle.logical_plan.specs.declared.parts.AggFunction.TheVariants.{Sum, Count, CountAll, Min, Max}
@@ -20,8 +21,10 @@ use Rattle.logical_plan.specs.declared.parts.Pair.{Pair}
 use Rattle.logical_plan.specs.BoxOps.{items_at, items_but, fixed_places}
 use Rattle.logical_plan.specs.Groups.{block}
 use Rattle.logical_plan.specs.Joins.{right_places}
+use Rattle.logical_plan.specs.ShapeSchemas.{transpose_schema, xgrid_schema, merge_schema, concat_schema}
 use Rattle.logical_plan.specs.Query.{Query, built, listed, scanned, filtered, applied, projected, between, subarray}
 use Rattle.logical_plan.specs.Query.{sliced, joined, crossed, redimensioned, regridded, windowed, aggregated}
+use Rattle.logical_plan.specs.Query.{sorted, ranked, cumulated, transposed, reversed, unpacked, xgridded, merged, concatenated}
 
 -- ---- attributes
 
@@ -156,7 +159,34 @@ window_schema gs source = record { attributes = aggregate_attributes source.attr
 abbrev pub aggregate_schema : List Aggregate → List ℕ → Schema → Schema
 aggregate_schema gs places source = record { attributes = aggregate_attributes source.attributes gs; dimensions = group_dimensions places source.dimensions }
 
--- joins and redimension carry the schema of their result
+-- `n=0:*,1000,0`, where `n` is no attribute's name, else with the least suffix that is free
+abbrev pub sort_dimension : List Attribute → Dimension
+sort_dimension attributes = record {
+  name = free_name (attribute_names attributes) (codes "n");
+  lo = pos 0;
+  hi = pos greatest_bound;
+  chunk = 1000;
+  overlap = 0;
+}
+
+abbrev pub sort_schema : Schema → Schema
+sort_schema source = record { attributes = source.attributes; dimensions = sort_dimension source.attributes ∷ [] }
+
+-- the name of the rank of an attribute. Beyond 64 bytes, where no typed plan comes, the rest is left out
+abbrev pub rank_name : List ℕ → List ℕ
+rank_name name = take 64 (name ++ codes "_rank")
+
+-- an attribute and its rank
+abbrev pub with_rank : List Attribute → List Attribute
+with_rank attributes = flat_map (λ a. a ∷ derived (rank_name a.name) Int64 ∷ []) attributes
+
+abbrev pub rank_schema : ℕ → Schema → Schema
+rank_schema x source = record { attributes = with_rank (items_at (x ∷ []) source.attributes); dimensions = source.dimensions }
+
+abbrev pub cumulate_schema : List Aggregate → Schema → Schema
+cumulate_schema = window_schema
+
+-- joins, redimension, sort and unpack carry the schema of their result
 abbrev pub schema_of : Query → Schema
 schema_of (built schema e) = schema
 schema_of (listed schema rows) = schema
@@ -173,3 +203,12 @@ schema_of (redimensioned source schema gs) = schema
 schema_of (regridded source sizes gs) = regrid_schema sizes gs (schema_of source)
 schema_of (windowed source reach gs) = window_schema gs (schema_of source)
 schema_of (aggregated source gs places) = aggregate_schema gs places (schema_of source)
+schema_of (sorted source keys schema) = schema
+schema_of (ranked source x dims) = rank_schema x (schema_of source)
+schema_of (cumulated source gs n) = cumulate_schema gs (schema_of source)
+schema_of (transposed source) = transpose_schema (schema_of source)
+schema_of (reversed source) = schema_of source
+schema_of (unpacked source schema) = schema
+schema_of (xgridded source sizes) = xgrid_schema sizes (schema_of source)
+schema_of (merged left right) = merge_schema (schema_of left) (schema_of right)
+schema_of (concatenated left right) = concat_schema (schema_of left) (schema_of right)

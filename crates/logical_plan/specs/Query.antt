@@ -27,6 +27,15 @@ pub data Query : Type 0 where
   regridded : Query → List ℕ → List Aggregate → Query
   windowed : Query → List Reach → List Aggregate → Query
   aggregated : Query → List Aggregate → List ℕ → Query
+  sorted : Query → List ℕ → Schema → Query
+  ranked : Query → ℕ → List ℕ → Query
+  cumulated : Query → List Aggregate → ℕ → Query
+  transposed : Query → Query
+  reversed : Query → Query
+  unpacked : Query → Schema → Query
+  xgridded : Query → List ℕ → Query
+  merged : Query → Query → Query
+  concatenated : Query → Query → Query
 
 -- how many operators it has
 abbrev pub query_size : Query → ℕ
@@ -45,3 +54,12 @@ query_size (redimensioned source schema aggregates) = query_size source + 1
 query_size (regridded source sizes aggregates) = query_size source + 1
 query_size (windowed source reach aggregates) = query_size source + 1
 query_size (aggregated source aggregates dimensions) = query_size source + 1
+query_size (sorted source keys schema) = query_size source + 1
+query_size (ranked source attribute dimensions) = query_size source + 1
+query_size (cumulated source aggregates dimension) = query_size source + 1
+query_size (transposed source) = query_size source + 1
+query_size (reversed source) = query_size source + 1
+query_size (unpacked source schema) = query_size source + 1
+query_size (xgridded source sizes) = query_size source + 1
+query_size (merged left right) = query_size left + query_size right + 1
+query_size (concatenated left right) = query_size left + query_size right + 1

@@ -1,6 +1,6 @@
 -- When a plan is typed: each expression is of its kind, each operator's own rules hold, the schemas that it carries are those of
 -- its sources, and each new schema is valid.
-use Rattle.std.specs.Prelude.{◌≡◌, ℕ, ◌+◌, ◌*◌, pos, ◌-ℤ◌, unsigned_abs, max, Bool, true, false, not, ◌&&◌, ◌||◌}
+use Rattle.std.specs.Prelude.{◌≡◌, ℕ, ◌+◌, ◌*◌, pos, ◌+ℤ◌, ◌-ℤ◌, int_le, unsigned_abs, max, Bool, true, false, not, ◌&&◌, ◌||◌}
 use Rattle.std.specs.Prelude.{◌==◌, nat_lt, nat_le, List, [], ◌∷◌, map, length, slice_get, Option, Some, None, IsTrue}
 use Rattle.std.specs.List.{AllByRecursion, list_any, list_all}
 use Rattle.std.specs.Ordering.{int_eq}
@@ -16,22 +16,24 @@ use Rattle.cell_values.specs.declared.schema.Kind.{Kind}
 use Rattle.cell_values.specs.declared.schema.Kind.TheVariants.{Int64, Str, Bool as Truths}
 use Rattle.cell_values.specs.declared.schema.Schema.{Schema}
 use Rattle.cell_values.specs.Nulls.{is_null}
-use Rattle.cell_values.specs.Schemas.{is_valid, IsValid, greatest_bound, attribute_names, is_among, are_distinct}
+use Rattle.cell_values.specs.Schemas.{IsValid, greatest_bound, attribute_names, is_among, are_distinct}
 use Rattle.array_rows.specs.Arrays.{AreRowsOf}
 use Rattle.expr_nulls.specs.Expr.{Expr, literal, conditional, coded_null}
 use Rattle.expr_nulls.specs.Typing.{has_kind, same_kind}
 use Rattle.logical_plan.specs.declared.parts.AggFunction.{AggFunction}
-use Rattle.logical_plan.specs.declared.parts.AggFunction.TheVariants.{Sum, Count, CountAll, Min, Max}
+use Rattle.logical_plan.specs.declared.parts.AggFunction.TheVariants.{Sum, CountAll, Min, Max}
 use Rattle.logical_plan.specs.declared.parts.Aggregate.{Aggregate}
 use Rattle.logical_plan.specs.declared.parts.Applied.{Applied}
-use Rattle.logical_plan.specs.declared.parts.Fixed.{Fixed}
 use Rattle.logical_plan.specs.declared.parts.Pair.{Pair}
 use Rattle.logical_plan.specs.declared.parts.Reach.{Reach}
 use Rattle.logical_plan.specs.BoxOps.{fixed_places}
 use Rattle.logical_plan.specs.Joins.{right_places}
-use Rattle.logical_plan.specs.PlanSchema.{schema_of, aggregate_kind, join_schema, cross_schema}
+use Rattle.logical_plan.specs.PlanSchema.{schema_of, aggregate_kind, join_schema, cross_schema, sort_schema}
 use Rattle.logical_plan.specs.Query.{Query, built, listed, scanned, filtered, applied, projected, between, subarray}
 use Rattle.logical_plan.specs.Query.{sliced, joined, crossed, redimensioned, regridded, windowed, aggregated}
+use Rattle.logical_plan.specs.Query.{sorted, ranked, cumulated, transposed, reversed, unpacked, xgridded, merged, concatenated}
+use Rattle.logical_plan.specs.Shapes.{last_place}
+use Rattle.logical_plan.specs.ShapeSchemas.{length_of, unpack_schema}
 use Rattle.logical_plan.specs.Redimension.{Origin, from_dimension, from_attribute, counted, origin_of, value_origin, counted_places, named}
 
 -- ---- expressions
@@ -195,6 +197,64 @@ abbrev pub are_windows_of : Schema → List Reach → Bool
 are_windows_of source reach =
     (length reach == length source.dimensions) && nat_le (window_size reach) 16777216 && nat_le (reached_size source.dimensions reach) 281474976710656
 
+-- ---- sort, rank and cumulate
+
+-- at least one attribute, none of them twice
+abbrev pub are_keys_of : List Attribute → List ℕ → Bool
+are_keys_of attributes keys = nat_le 1 (length keys) && are_below (length attributes) keys && are_apart keys
+
+-- a number or a text, whose name leaves room for that of the rank
+abbrev pub can_be_ranked : Option Attribute → Bool
+can_be_ranked None = false
+can_be_ranked (Some a) = is_of_some_kind (Int64 ∷ Str ∷ []) (Some a) && nat_le (length a.name + 5) 64
+
+abbrev pub ranks : Schema → ℕ → List ℕ → Bool
+ranks source x dims = can_be_ranked (slice_get source.attributes x) && are_below (length source.dimensions) dims && are_apart dims
+
+abbrev pub cumulates : Schema → List Aggregate → ℕ → Bool
+cumulates source gs n = are_aggregates_of source.attributes gs && nat_lt n (length source.dimensions)
+
+-- ---- transpose, reverse, unpack, xgrid, merge and concat
+
+abbrev pub are_bounded : List Dimension → Bool
+are_bounded = list_all is_bounded
+
+-- the name of the one dimension of an unpacked array
+abbrev pub first_name : List Dimension → List ℕ
+first_name [] = []
+first_name (d ∷ dims) = d.name
+
+abbrev pub product_of : List ℕ → ℕ
+product_of [] = 1
+product_of (n ∷ ns) = n * product_of ns
+
+-- a block of at least one place for each dimension, with which the high bound is still a bound
+abbrev pub can_enlarge : List Dimension → List ℕ → Bool
+can_enlarge [] [] = true
+can_enlarge (d ∷ dims) (size ∷ sizes) = nat_le 1 size && int_le (last_place d size d.hi) (pos greatest_bound) && can_enlarge dims sizes
+can_enlarge dims sizes = false
+
+-- at most 65,536 places for each place
+abbrev pub enlarges : Schema → List ℕ → Bool
+enlarges source sizes = can_enlarge source.dimensions sizes && nat_le (product_of sizes) 65536
+
+abbrev pub same_kinds : List Attribute → List Attribute → Bool
+same_kinds [] [] = true
+same_kinds (a ∷ left) (b ∷ right) = same_kind a.kind b.kind && same_kinds left right
+same_kinds left right = false
+
+abbrev pub merges : Schema → Schema → Bool
+merges left right = same_bounds left.dimensions right.dimensions && same_kinds left.attributes right.attributes
+
+-- the left has an end in its first dimension, behind which the right has room; the bounds of the others are the same
+abbrev pub can_follow : List Dimension → List Dimension → Bool
+can_follow (l ∷ left) (r ∷ right) =
+    is_bounded l && int_le (l.hi +ℤ pos (length_of r)) (pos greatest_bound) && same_bounds left right
+can_follow left right = false
+
+abbrev pub concatenates : Schema → Schema → Bool
+concatenates left right = can_follow left.dimensions right.dimensions && same_kinds left.attributes right.attributes
+
 -- ---- plans
 
 -- the rules of an operator for sources of these schemas. A new schema's own rules stand below
@@ -230,3 +290,16 @@ IsTyped (windowed source reach gs) =
 IsTyped (aggregated source gs places) =
     IsTyped source × IsTrue (are_below (length (schema_of source).dimensions) places && are_aggregates_of (schema_of source).attributes gs)
     × IsValid (schema_of (aggregated source gs places))
+IsTyped (sorted source keys schema) =
+    IsTyped source × IsTrue (are_keys_of (schema_of source).attributes keys) × (schema ≡ sort_schema (schema_of source)) × IsValid schema
+IsTyped (ranked source x dims) = IsTyped source × IsTrue (ranks (schema_of source) x dims) × IsValid (schema_of (ranked source x dims))
+IsTyped (cumulated source gs n) = IsTyped source × IsTrue (cumulates (schema_of source) gs n) × IsValid (schema_of (cumulated source gs n))
+IsTyped (transposed source) = IsTyped source × IsValid (schema_of (transposed source))
+IsTyped (reversed source) = IsTyped source × IsTrue (are_bounded (schema_of source).dimensions)
+IsTyped (unpacked source schema) =
+    IsTyped source × (schema ≡ unpack_schema (first_name schema.dimensions) (schema_of source)) × IsValid schema
+IsTyped (xgridded source sizes) = IsTyped source × IsTrue (enlarges (schema_of source) sizes) × IsValid (schema_of (xgridded source sizes))
+IsTyped (merged left right) =
+    IsTyped left × IsTyped right × IsTrue (merges (schema_of left) (schema_of right)) × IsValid (schema_of (merged left right))
+IsTyped (concatenated left right) =
+    IsTyped left × IsTyped right × IsTrue (concatenates (schema_of left) (schema_of right)) × IsValid (schema_of (concatenated left right))

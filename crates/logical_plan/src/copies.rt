@@ -2,6 +2,7 @@
 ghost use Rattle.std.specs.Prelude.{◌≡◌, IfOk, Ok};
 ghost use Rattle.logical_plan.specs.Query.{Query, built, listed, scanned, filtered, applied, projected, between, subarray};
 ghost use Rattle.logical_plan.specs.Query.{sliced, joined, crossed, redimensioned, regridded, windowed, aggregated};
+ghost use Rattle.logical_plan.specs.Query.{sorted, ranked, cumulated, transposed, reversed, unpacked, xgridded, merged, concatenated};
 
 use crate::{Aggregate, Applied, Fixed, Leaf, Pair, Plan, PlanNode, Reach};
 use cell_values::{Bounds, Copies, List, Memory, Row, Schema};
@@ -59,7 +60,7 @@ fn copy_scan(leaf: &Leaf) -> Result<Plan, Memory>
     Ok(Plan::scan(leaf.copy()?))
 }
 
-fn filter_of(source: Result<Box<Plan>, Memory>, test: &TypedExpr) -> Result<Plan, Memory>
+pub(crate) fn filter_of(source: Result<Box<Plan>, Memory>, test: &TypedExpr) -> Result<Plan, Memory>
     ensures { (q : Query) → IfOk source (λ b. b.value ≡ q) → IfOk result (λ p. p ≡ filtered q test.now) }
 {
     match both(source, test.copy()) {
@@ -70,7 +71,10 @@ fn filter_of(source: Result<Box<Plan>, Memory>, test: &TypedExpr) -> Result<Plan
     }
 }
 
-fn apply_of(source: Result<Box<Plan>, Memory>, values: &List<Applied>) -> Result<Plan, Memory>
+pub(crate) fn apply_of(
+    source: Result<Box<Plan>, Memory>,
+    values: &List<Applied>,
+) -> Result<Plan, Memory>
     ensures { (q : Query) → IfOk source (λ b. b.value ≡ q) → IfOk result (λ p. p ≡ applied q values.now) }
 {
     match both(source, values.copy()) {
@@ -81,7 +85,10 @@ fn apply_of(source: Result<Box<Plan>, Memory>, values: &List<Applied>) -> Result
     }
 }
 
-fn project_of(source: Result<Box<Plan>, Memory>, places: &List<u32>) -> Result<Plan, Memory>
+pub(crate) fn project_of(
+    source: Result<Box<Plan>, Memory>,
+    places: &List<u32>,
+) -> Result<Plan, Memory>
     ensures { (q : Query) → IfOk source (λ b. b.value ≡ q) → IfOk result (λ p. p ≡ projected q places.now) }
 {
     match both(source, places.copy()) {
@@ -92,7 +99,7 @@ fn project_of(source: Result<Box<Plan>, Memory>, places: &List<u32>) -> Result<P
     }
 }
 
-fn between_of(source: Result<Box<Plan>, Memory>, area: &Bounds) -> Result<Plan, Memory>
+pub(crate) fn between_of(source: Result<Box<Plan>, Memory>, area: &Bounds) -> Result<Plan, Memory>
     ensures { (q : Query) → IfOk source (λ b. b.value ≡ q) → IfOk result (λ p. p ≡ between q area.now) }
 {
     match both(source, area.copy()) {
@@ -103,7 +110,7 @@ fn between_of(source: Result<Box<Plan>, Memory>, area: &Bounds) -> Result<Plan, 
     }
 }
 
-fn subarray_of(source: Result<Box<Plan>, Memory>, area: &Bounds) -> Result<Plan, Memory>
+pub(crate) fn subarray_of(source: Result<Box<Plan>, Memory>, area: &Bounds) -> Result<Plan, Memory>
     ensures { (q : Query) → IfOk source (λ b. b.value ≡ q) → IfOk result (λ p. p ≡ subarray q area.now) }
 {
     match both(source, area.copy()) {
@@ -114,7 +121,10 @@ fn subarray_of(source: Result<Box<Plan>, Memory>, area: &Bounds) -> Result<Plan,
     }
 }
 
-fn slice_of(source: Result<Box<Plan>, Memory>, fixed: &List<Fixed>) -> Result<Plan, Memory>
+pub(crate) fn slice_of(
+    source: Result<Box<Plan>, Memory>,
+    fixed: &List<Fixed>,
+) -> Result<Plan, Memory>
     ensures { (q : Query) → IfOk source (λ b. b.value ≡ q) → IfOk result (λ p. p ≡ sliced q fixed.now) }
 {
     match both(source, fixed.copy()) {
@@ -125,7 +135,7 @@ fn slice_of(source: Result<Box<Plan>, Memory>, fixed: &List<Fixed>) -> Result<Pl
     }
 }
 
-fn join_of(
+pub(crate) fn join_of(
     left: Result<Box<Plan>, Memory>,
     right: Result<Box<Plan>, Memory>,
     schema: &Schema,
@@ -140,7 +150,7 @@ fn join_of(
     }
 }
 
-fn cross_join_of(
+pub(crate) fn cross_join_of(
     left: Result<Box<Plan>, Memory>,
     right: Result<Box<Plan>, Memory>,
     pairs: &List<Pair>,
@@ -156,7 +166,7 @@ fn cross_join_of(
     }
 }
 
-fn redimension_of(
+pub(crate) fn redimension_of(
     source: Result<Box<Plan>, Memory>,
     schema: &Schema,
     aggregates: &List<Aggregate>,
@@ -171,7 +181,7 @@ fn redimension_of(
     }
 }
 
-fn regrid_of(
+pub(crate) fn regrid_of(
     source: Result<Box<Plan>, Memory>,
     sizes: &List<u64>,
     aggregates: &List<Aggregate>,
@@ -186,7 +196,7 @@ fn regrid_of(
     }
 }
 
-fn window_of(
+pub(crate) fn window_of(
     source: Result<Box<Plan>, Memory>,
     reach: &List<Reach>,
     aggregates: &List<Aggregate>,
@@ -201,7 +211,7 @@ fn window_of(
     }
 }
 
-fn aggregate_of(
+pub(crate) fn aggregate_of(
     source: Result<Box<Plan>, Memory>,
     aggregates: &List<Aggregate>,
     dimensions: &List<u32>,
@@ -211,6 +221,123 @@ fn aggregate_of(
     match both(source, both_copies(aggregates, dimensions)) {
         Ok((source, (aggregates, dimensions))) => Ok(Plan {
             node: PlanNode::Aggregate(source, aggregates, dimensions),
+        }),
+        Err(Memory) => Err(Memory),
+    }
+}
+
+pub(crate) fn sort_of(
+    source: Result<Box<Plan>, Memory>,
+    keys: &List<u32>,
+    schema: &Schema,
+) -> Result<Plan, Memory>
+    ensures { (q : Query) → IfOk source (λ b. b.value ≡ q) → IfOk result (λ p. p ≡ sorted q keys.now schema.now) }
+{
+    match both(source, both_copies(keys, schema)) {
+        Ok((source, (keys, schema))) => Ok(Plan {
+            node: PlanNode::Sort(source, keys, schema),
+        }),
+        Err(Memory) => Err(Memory),
+    }
+}
+
+pub(crate) fn rank_of(
+    source: Result<Box<Plan>, Memory>,
+    attribute: u32,
+    dimensions: &List<u32>,
+) -> Result<Plan, Memory>
+    ensures { (q : Query) → IfOk source (λ b. b.value ≡ q) → IfOk result (λ p. p ≡ ranked q attribute dimensions.now) }
+{
+    match both(source, dimensions.copy()) {
+        Ok((source, dimensions)) => Ok(Plan {
+            node: PlanNode::Rank(source, attribute, dimensions),
+        }),
+        Err(Memory) => Err(Memory),
+    }
+}
+
+pub(crate) fn cumulate_of(
+    source: Result<Box<Plan>, Memory>,
+    aggregates: &List<Aggregate>,
+    dimension: u32,
+) -> Result<Plan, Memory>
+    ensures { (q : Query) → IfOk source (λ b. b.value ≡ q) → IfOk result (λ p. p ≡ cumulated q aggregates.now dimension) }
+{
+    match both(source, aggregates.copy()) {
+        Ok((source, aggregates)) => Ok(Plan {
+            node: PlanNode::Cumulate(source, aggregates, dimension),
+        }),
+        Err(Memory) => Err(Memory),
+    }
+}
+
+pub(crate) fn transpose_of(source: Result<Box<Plan>, Memory>) -> Result<Plan, Memory>
+    ensures { (q : Query) → IfOk source (λ b. b.value ≡ q) → IfOk result (λ p. p ≡ transposed q) }
+{
+    match source {
+        Ok(source) => Ok(Plan {
+            node: PlanNode::Transpose(source),
+        }),
+        Err(Memory) => Err(Memory),
+    }
+}
+
+pub(crate) fn reverse_of(source: Result<Box<Plan>, Memory>) -> Result<Plan, Memory>
+    ensures { (q : Query) → IfOk source (λ b. b.value ≡ q) → IfOk result (λ p. p ≡ reversed q) }
+{
+    match source {
+        Ok(source) => Ok(Plan {
+            node: PlanNode::Reverse(source),
+        }),
+        Err(Memory) => Err(Memory),
+    }
+}
+
+pub(crate) fn unpack_of(source: Result<Box<Plan>, Memory>, schema: &Schema) -> Result<Plan, Memory>
+    ensures { (q : Query) → IfOk source (λ b. b.value ≡ q) → IfOk result (λ p. p ≡ unpacked q schema.now) }
+{
+    match both(source, schema.copy()) {
+        Ok((source, schema)) => Ok(Plan {
+            node: PlanNode::Unpack(source, schema),
+        }),
+        Err(Memory) => Err(Memory),
+    }
+}
+
+pub(crate) fn xgrid_of(source: Result<Box<Plan>, Memory>, sizes: &List<u64>) -> Result<Plan, Memory>
+    ensures { (q : Query) → IfOk source (λ b. b.value ≡ q) → IfOk result (λ p. p ≡ xgridded q sizes.now) }
+{
+    match both(source, sizes.copy()) {
+        Ok((source, sizes)) => Ok(Plan {
+            node: PlanNode::Xgrid(source, sizes),
+        }),
+        Err(Memory) => Err(Memory),
+    }
+}
+
+pub(crate) fn merge_of(
+    left: Result<Box<Plan>, Memory>,
+    right: Result<Box<Plan>, Memory>,
+) -> Result<Plan, Memory>
+    ensures { (l r : Query) → IfOk left (λ b. b.value ≡ l) → IfOk right (λ b. b.value ≡ r) → IfOk result (λ p. p ≡ merged l r) }
+{
+    match both(left, right) {
+        Ok((left, right)) => Ok(Plan {
+            node: PlanNode::Merge(left, right),
+        }),
+        Err(Memory) => Err(Memory),
+    }
+}
+
+pub(crate) fn concat_of(
+    left: Result<Box<Plan>, Memory>,
+    right: Result<Box<Plan>, Memory>,
+) -> Result<Plan, Memory>
+    ensures { (l r : Query) → IfOk left (λ b. b.value ≡ l) → IfOk right (λ b. b.value ≡ r) → IfOk result (λ p. p ≡ concatenated l r) }
+{
+    match both(left, right) {
+        Ok((left, right)) => Ok(Plan {
+            node: PlanNode::Concat(left, right),
         }),
         Err(Memory) => Err(Memory),
     }
@@ -255,6 +382,19 @@ fn copy_plan(plan: &Plan) -> Result<Plan, Memory>
         PlanNode::Aggregate(source, aggregates, dimensions) => {
             aggregate_of(copy_source(source), aggregates, dimensions)
         }
+        PlanNode::Sort(source, keys, schema) => sort_of(copy_source(source), keys, schema),
+        PlanNode::Rank(source, attribute, dimensions) => {
+            rank_of(copy_source(source), *attribute, dimensions)
+        }
+        PlanNode::Cumulate(source, aggregates, dimension) => {
+            cumulate_of(copy_source(source), aggregates, *dimension)
+        }
+        PlanNode::Transpose(source) => transpose_of(copy_source(source)),
+        PlanNode::Reverse(source) => reverse_of(copy_source(source)),
+        PlanNode::Unpack(source, schema) => unpack_of(copy_source(source), schema),
+        PlanNode::Xgrid(source, sizes) => xgrid_of(copy_source(source), sizes),
+        PlanNode::Merge(left, right) => merge_of(copy_source(left), copy_source(right)),
+        PlanNode::Concat(left, right) => concat_of(copy_source(left), copy_source(right)),
     }
 }
 

@@ -2,27 +2,18 @@
 ghost use Rattle.std.specs.Prelude.{◌≡◌, ◌++◌, IfOk, OnOk};
 ghost use Rattle.logical_plan.specs.Leaves.{leaves};
 
-use crate::{Leaf, Plan, PlanNode};
+use crate::{Leaf, LeafNode, Plan, PlanShape};
 use cell_values::{List, Memory};
 use std::alloc::Global;
 
 fn push_leaves(found: &mut List<Leaf>, plan: &Plan) -> Result<(), Memory>
     ensures { OnOk result (found.new ≡ found.old ++ leaves plan.now) }
 {
-    match &plan.node {
-        PlanNode::Build(_, _) | PlanNode::Literal(_, _) => Ok(()),
-        PlanNode::Scan(leaf) => found.push(leaf.copy()?),
-        PlanNode::Filter(source, _)
-        | PlanNode::Apply(source, _)
-        | PlanNode::Project(source, _)
-        | PlanNode::Between(source, _)
-        | PlanNode::Subarray(source, _)
-        | PlanNode::Slice(source, _)
-        | PlanNode::Redimension(source, _, _)
-        | PlanNode::Regrid(source, _, _)
-        | PlanNode::Window(source, _, _)
-        | PlanNode::Aggregate(source, _, _) => push_leaves(found, source),
-        PlanNode::Join(left, right, _) | PlanNode::CrossJoin(left, right, _, _) => {
+    match plan.shape() {
+        PlanShape::Leaf(LeafNode::Build(..)) | PlanShape::Leaf(LeafNode::Literal(..)) => Ok(()),
+        PlanShape::Leaf(LeafNode::Scan(leaf)) => found.push(leaf.copy()?),
+        PlanShape::Unary(source, _) => push_leaves(found, source),
+        PlanShape::Binary(left, right, _) => {
             push_leaves(found, left)?;
             push_leaves(found, right)
         }

@@ -1,6 +1,7 @@
 //! Plans of queries, their leaves, what they mean, and with which schema.
 #![tactic(auto)]
 
+mod arity;
 mod copies;
 mod laws;
 mod leaves;
@@ -9,6 +10,7 @@ mod names;
 mod parts;
 mod plan;
 
+pub use arity::{BinaryNode, LeafNode, PlanShape, UnaryNode};
 pub use expr_nulls::{ArithOp, ExprNode, TypedExpr};
 pub use laws::{plans_mean_arrays_of_their_schema, values_are_ordered};
 pub use leaves::reads;

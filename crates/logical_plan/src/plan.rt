@@ -2,6 +2,7 @@
 ghost use Rattle.std.specs.Prelude.{◌≡◌, IfOk};
 ghost use Rattle.logical_plan.specs.Query.{built, listed, scanned, filtered, applied, projected, between, subarray};
 ghost use Rattle.logical_plan.specs.Query.{sliced, joined, crossed, redimensioned, regridded, windowed, aggregated};
+ghost use Rattle.logical_plan.specs.Query.{sorted, ranked, cumulated, transposed, reversed, unpacked, xgridded, merged, concatenated};
 
 use crate::{Aggregate, Applied, Fixed, Leaf, Pair, Reach};
 use cell_values::{Bounds, List, Memory, Row, Schema};
@@ -51,6 +52,24 @@ pub enum PlanNode {
     Window(Box<Plan>, List<Reach>, List<Aggregate>),
     /// Aggregates of the cells that agree in the dimensions at these places.
     Aggregate(Box<Plan>, List<Aggregate>, List<u32>),
+    /// The cells by the order of the attributes at these places, and the schema of the result.
+    Sort(Box<Plan>, List<u32>, Schema),
+    /// The attribute at a place and its rank among the cells that agree in the dimensions at these places.
+    Rank(Box<Plan>, u32, List<u32>),
+    /// Aggregates of the cells up to each cell along the dimension at a place.
+    Cumulate(Box<Plan>, List<Aggregate>, u32),
+    /// The cells with their coordinates backwards.
+    Transpose(Box<Plan>),
+    /// The cells at the places opposite, in each dimension as far from the high bound as they were from the low one.
+    Reverse(Box<Plan>),
+    /// The cells numbered in row-major order, with their coordinates as attributes, and the schema of the result.
+    Unpack(Box<Plan>, Schema),
+    /// Each cell at all places of a block, whose lengths are given for each dimension.
+    Xgrid(Box<Plan>, List<u64>),
+    /// The cells of two arrays of the same bounds; where both have one, the left's.
+    Merge(Box<Plan>, Box<Plan>),
+    /// Two arrays, the right one behind the left one along the first dimension.
+    Concat(Box<Plan>, Box<Plan>),
 }
 
 impl Model for Plan {
@@ -298,6 +317,120 @@ impl Plan {
         match boxed_with(alloc, source, (aggregates, dimensions)) {
             Ok((source, (aggregates, dimensions))) => Ok(Plan {
                 node: PlanNode::Aggregate(source, aggregates, dimensions),
+            }),
+            Err(Memory) => Err(Memory),
+        }
+    }
+
+    pub fn sort(
+        alloc: Global,
+        source: Plan,
+        keys: List<u32>,
+        schema: Schema,
+    ) -> Result<Plan, Memory>
+        ensures { IfOk result (λ p. p ≡ sorted source keys schema) }
+    {
+        match boxed_with(alloc, source, (keys, schema)) {
+            Ok((source, (keys, schema))) => Ok(Plan {
+                node: PlanNode::Sort(source, keys, schema),
+            }),
+            Err(Memory) => Err(Memory),
+        }
+    }
+
+    pub fn rank(
+        alloc: Global,
+        source: Plan,
+        attribute: u32,
+        dimensions: List<u32>,
+    ) -> Result<Plan, Memory>
+        ensures { IfOk result (λ p. p ≡ ranked source attribute dimensions) }
+    {
+        match boxed_with(alloc, source, dimensions) {
+            Ok((source, dimensions)) => Ok(Plan {
+                node: PlanNode::Rank(source, attribute, dimensions),
+            }),
+            Err(Memory) => Err(Memory),
+        }
+    }
+
+    pub fn cumulate(
+        alloc: Global,
+        source: Plan,
+        aggregates: List<Aggregate>,
+        dimension: u32,
+    ) -> Result<Plan, Memory>
+        ensures { IfOk result (λ p. p ≡ cumulated source aggregates dimension) }
+    {
+        match boxed_with(alloc, source, aggregates) {
+            Ok((source, aggregates)) => Ok(Plan {
+                node: PlanNode::Cumulate(source, aggregates, dimension),
+            }),
+            Err(Memory) => Err(Memory),
+        }
+    }
+
+    pub fn transpose(alloc: Global, source: Plan) -> Result<Plan, Memory>
+        ensures { IfOk result (λ p. p ≡ transposed source) }
+    {
+        match Box::new(alloc, source) {
+            Ok(source) => Ok(Plan {
+                node: PlanNode::Transpose(source),
+            }),
+            Err(_) => Err(Memory),
+        }
+    }
+
+    pub fn reverse(alloc: Global, source: Plan) -> Result<Plan, Memory>
+        ensures { IfOk result (λ p. p ≡ reversed source) }
+    {
+        match Box::new(alloc, source) {
+            Ok(source) => Ok(Plan {
+                node: PlanNode::Reverse(source),
+            }),
+            Err(_) => Err(Memory),
+        }
+    }
+
+    pub fn unpack(alloc: Global, source: Plan, schema: Schema) -> Result<Plan, Memory>
+        ensures { IfOk result (λ p. p ≡ unpacked source schema) }
+    {
+        match boxed_with(alloc, source, schema) {
+            Ok((source, schema)) => Ok(Plan {
+                node: PlanNode::Unpack(source, schema),
+            }),
+            Err(Memory) => Err(Memory),
+        }
+    }
+
+    pub fn xgrid(alloc: Global, source: Plan, sizes: List<u64>) -> Result<Plan, Memory>
+        ensures { IfOk result (λ p. p ≡ xgridded source sizes) }
+    {
+        match boxed_with(alloc, source, sizes) {
+            Ok((source, sizes)) => Ok(Plan {
+                node: PlanNode::Xgrid(source, sizes),
+            }),
+            Err(Memory) => Err(Memory),
+        }
+    }
+
+    pub fn merge(alloc: Global, left: Plan, right: Plan) -> Result<Plan, Memory>
+        ensures { IfOk result (λ p. p ≡ merged left right) }
+    {
+        match both_boxed_with(alloc, left, right, ()) {
+            Ok((left, right, ())) => Ok(Plan {
+                node: PlanNode::Merge(left, right),
+            }),
+            Err(Memory) => Err(Memory),
+        }
+    }
+
+    pub fn concat(alloc: Global, left: Plan, right: Plan) -> Result<Plan, Memory>
+        ensures { IfOk result (λ p. p ≡ concatenated left right) }
+    {
+        match both_boxed_with(alloc, left, right, ()) {
+            Ok((left, right, ())) => Ok(Plan {
+                node: PlanNode::Concat(left, right),
             }),
             Err(Memory) => Err(Memory),
         }

@@ -16,7 +16,6 @@ pub mod Opened
 pub mod PageReads
 pub mod Puts
 pub mod RecordLemmas
-pub mod Sealed
 pub mod SlotLemmas
 pub mod Stays
 pub mod Steps

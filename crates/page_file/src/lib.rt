@@ -5,15 +5,12 @@ mod commits;
 mod files;
 mod making;
 mod opening;
-mod sealing;
+mod page_writes;
 mod writing;
 
 pub use commits::{Placed, Stopped, commit_base, commit_record, commits_may_be_written};
 pub use files::{BlobFault, OpenCause, PageFile};
 pub use making::{InitFault, init};
 pub use opening::open_slots;
-pub use sealing::{
-    puts_are_writes, record_opened, record_sealed, record_written, root_opened, root_sealed,
-    root_written,
-};
+pub use page_writes::puts_are_writes;
 pub use writing::{write_blob, write_chain};

@@ -23,6 +23,7 @@ use Rattle.plan_needs.specs.Sides.{Sides, box_of, of_regrid}
 use Rattle.plan_needs.specs.Stretches.{stretch, all_of, is_empty, shared, block_first, block_last, blocks}
 use Rattle.plan_needs.proofs.AlikeGroups.{grouped_depends}
 use Rattle.plan_needs.proofs.AlikeParts.{alike_by, sat_low, sat_high}
+use Rattle.plan_needs.proofs.EmptyBoxes.{needed_inside}
 use Rattle.plan_needs.proofs.Inside.{AreInside, side_parts, side_from}
 
 -- ---- whole blocks
@@ -99,7 +100,7 @@ block_held d size s x some near a b f g = by_test (is_empty (shared (all_of d) s
         (both_below d.lo (block_first d.lo size (int_max d.lo s.first)) x a first, both_above d.hi (block_last d.lo size (int_min d.hi s.last)) x b last)
 
 blocks_hold : (dims : List Dimension) (sizes : List ℕ) (sides : Sides) (c : Coordinate) → length sizes ≡ length dims → IsTrue (list_all (λ size. nat_le 1 size) sizes) → AreNear dims → is_inside (bounds_of dims) c ≡ true
-    → is_inside (box_of sides) (by_pairs (λ b x. b x) (by_pairs block (bounds_of dims).lo.items sizes) c) ≡ true → is_inside (box_of (of_regrid dims sizes sides)) c ≡ true
+    → is_inside (box_of sides) (by_pairs (λ b x. b x) (by_pairs block (bounds_of dims).lo.items sizes) c) ≡ true → is_inside (box_of (by_pairs (λ f s. f s) (by_pairs blocks dims sizes) sides)) c ≡ true
 blocks_hold [] sizes sides [] len some near e f = refl
 blocks_hold [] sizes sides (x ∷ c) len some near e f = absurd (false≢true e)
 blocks_hold (d ∷ dims) [] sides c len some near e f = absurd (omega arith)
@@ -121,5 +122,5 @@ alike_blocks schema sizes gs sides valid len some m n e f i j h =
     ap (λ (s : Schema). if_whole (within (box_of sides)) (if_whole (regrid_rows (bounds_of s.dimensions).lo.items sizes gs) m.rows)) e
     ∙ alike_by (AreInside dims) (box_of sides) (box_of (of_regrid dims sizes sides)) (regrid_rows (bounds_of dims).lo.items sizes gs)
     (grouped_depends dims (λ c. by_pairs (λ b x. b x) (by_pairs block (bounds_of dims).lo.items sizes) c) gs (box_of sides) (box_of (of_regrid dims sizes sides))
-    (λ c p q. blocks_hold dims sizes sides c len some (near_slice schema dims refl valid) p q)) m.rows n.rows i j h
+    (λ c p q. needed_inside sides (by_pairs (λ (g : Stretch → Stretch) (s : Stretch). g s) (by_pairs blocks dims sizes) sides) (by_pairs (λ (b : ℤ → ℤ) (x : ℤ). b x) (by_pairs block (bounds_of dims).lo.items sizes) c) c q (blocks_hold dims sizes sides c len some (near_slice schema dims refl valid) p q))) m.rows n.rows i j h
     ∙ ap (λ (s : Schema). if_whole (within (box_of sides)) (if_whole (regrid_rows (bounds_of s.dimensions).lo.items sizes gs) n.rows)) (sym f)

@@ -1,7 +1,7 @@
 -- What groups need of their source.
-use Rattle.std.proofs.Common.{◌≡◌, ℕ, suc, ◌+◌, ℤ, pos, ◌≤ℤ◌, ◌<ℤ◌, Bool, true, false, List, [], ◌∷◌, map, filter, cond, Option, Some, None, Result, Ok, Err, refl, sym, ap, ◌∙◌, subst, arith}
-use Rattle.std.specs.Prelude.{◌&&◌, ◌||◌, ◌==◌, int_le, slice_index_or, IfOk}
-use Rattle.std.specs.List.{AllByRecursion, list_any}
+use Rattle.std.proofs.Common.{◌≡◌, ℕ, suc, ◌+◌, ℤ, pos, ◌≤ℤ◌, Bool, true, false, List, [], ◌∷◌, map, filter, cond, Option, Some, None, Result, Ok, Err, refl, sym, ap, ◌∙◌, subst, arith}
+use Rattle.std.specs.Prelude.{◌==◌, slice_index_or, IfOk}
+use Rattle.std.specs.List.{AllByRecursion}
 use Rattle.std.specs.Ordering.{is_eq}
 use Rattle.std.specs.declared.cmp.Ordering.{Ordering}
 use Rattle.std.specs.declared.cmp.Ordering.TheVariants.{Less, Equal, Greater}
@@ -17,15 +17,14 @@ use Rattle.array_rows.specs.Rows.{Coordinate, row_major, placed, cell_at}
 use Rattle.array_rows.proofs.RowsLemmas.{row_major_exact, same_rows}
 use Rattle.array_rows.proofs.RowSets.{IsRising-in_order, IsRising-rows_where, cell_at-in_order, cell_at-within}
 use Rattle.array_geom.specs.Link.{is_not_empty}
-use Rattle.array_geom.proofs.TestLaws.{le_from_test, lt_from_test}
 use Rattle.logical_plan.specs.declared.parts.Aggregate.{Aggregate}
 use Rattle.logical_plan.specs.BoxOps.{numbers_at}
 use Rattle.logical_plan.specs.Faults.{if_whole}
 use Rattle.logical_plan.specs.Groups.{aggregates_of, group_at, grouped, aggregate_rows}
 use Rattle.plan_needs.specs.declared.stretch.Stretch.{Stretch}
-use Rattle.plan_needs.specs.Sides.{Sides, box_of, side_named, clipped, named_sides}
-use Rattle.plan_needs.specs.Stretches.{is_empty}
+use Rattle.plan_needs.specs.Sides.{Sides, box_of, has_empty, unless_nothing, side_named, clipped, named_sides}
 use Rattle.plan_needs.proofs.AlikeParts.{alike_by, Holds}
+use Rattle.plan_needs.proofs.EmptyBoxes.{empty_box, needed_inside}
 use Rattle.plan_needs.proofs.Inside.{AreInside, Inside, side_parts, side_from}
 
 -- ---- the cell of a group
@@ -129,61 +128,38 @@ named_sides_hold places sides z n (d ∷ dims) (x ∷ c) at e f =
     later m k = omega arith
 
 named_depends : (dims : List Dimension) (places : List ℕ) (gs : List Aggregate) (sides : Sides) (rows : List Row) → AreInside dims rows
-    → within (box_of sides) (grouped (numbers_at places) gs rows) ≡ within (box_of sides) (grouped (numbers_at places) gs (within (box_of (named_sides places sides 0 dims)) rows))
+    → within (box_of sides) (grouped (numbers_at places) gs rows) ≡ within (box_of sides) (grouped (numbers_at places) gs (within (box_of (unless_nothing (has_empty sides) (named_sides places sides 0 dims))) rows))
 named_depends dims places gs sides =
-    grouped_depends dims (numbers_at places) gs (box_of sides) (box_of (named_sides places sides 0 dims))
-    (λ c e f. named_sides_hold places sides c 0 dims c (λ k. ap (λ (m : ℕ). slice_index_or c m (pos 0)) (from_zero k)) e f)
+    grouped_depends dims (numbers_at places) gs (box_of sides) (box_of (unless_nothing (has_empty sides) (named_sides places sides 0 dims)))
+    (λ c e f. needed_inside sides (named_sides places sides 0 dims) (numbers_at places c) c f (named_sides_hold places sides c 0 dims c (λ k. ap (λ (m : ℕ). slice_index_or c m (pos 0)) (from_zero k)) e f))
   where
     from_zero : (k : ℕ) → 0 + k ≡ k
     from_zero k = omega arith
 
 pub alike_named : (dims : List Dimension) (p : ℕ) (places : List ℕ) (gs : List Aggregate) (sides : Sides) (x y : Result (List Row) Broken) → IfOk x (AreInside dims) → IfOk y (AreInside dims)
-    → if_whole (within (box_of (named_sides (p ∷ places) sides 0 dims))) x ≡ if_whole (within (box_of (named_sides (p ∷ places) sides 0 dims))) y
+    → if_whole (within (box_of (unless_nothing (has_empty sides) (named_sides (p ∷ places) sides 0 dims)))) x ≡ if_whole (within (box_of (unless_nothing (has_empty sides) (named_sides (p ∷ places) sides 0 dims)))) y
     → if_whole (within (box_of sides)) (if_whole (aggregate_rows (p ∷ places) gs) x) ≡ if_whole (within (box_of sides)) (if_whole (aggregate_rows (p ∷ places) gs) y)
 alike_named dims p places gs sides x y i j h =
-    alike_by (AreInside dims) (box_of sides) (box_of (named_sides (p ∷ places) sides 0 dims)) (grouped (numbers_at (p ∷ places)) gs) (named_depends dims (p ∷ places) gs sides) x y i j h
+    alike_by (AreInside dims) (box_of sides) (box_of (unless_nothing (has_empty sides) (named_sides (p ∷ places) sides 0 dims))) (grouped (numbers_at (p ∷ places)) gs) (named_depends dims (p ∷ places) gs sides) x y i j h
 
 -- ---- one group of all
-
-none_between : (l h x : ℤ) (more : Bool) → h <ℤ l → (int_le l x && int_le x h && more) ≡ false
-none_between l h x more lt = by_tests (int_le l x) (int_le x h) refl refl
-  where
-    by_tests : (a b : Bool) → int_le l x ≡ a → int_le x h ≡ b → (a && b && more) ≡ false
-    by_tests false b f g = refl
-    by_tests true false f g = refl
-    by_tests true true f g = let p = le_from_test l x f in let q = le_from_test x h g in absurd (omega (arith, ints))
 
 pub alike_all : (dims : List Dimension) (gs : List Aggregate) (box : Bounds) (x y : Result (List Row) Broken) → x ≡ y → if_whole (within box) (if_whole (aggregate_rows [] gs) x) ≡ if_whole (within box) (if_whole (aggregate_rows [] gs) y)
 alike_all dims gs box x y e = ap (λ (r : Result (List Row) Broken). if_whole (within box) (if_whole (aggregate_rows [] gs) r)) e
 
-empty_box : (sides : Sides) (c : Coordinate) → list_any is_empty sides ≡ true → is_inside (box_of sides) c ≡ false
-empty_box [] c e = absurd cc
-empty_box (s ∷ sides) [] e = refl
-empty_box (s ∷ sides) (x ∷ c) e = by_side (is_empty s) refl e (λ f. empty_box sides c f)
-  where
-    never : (a b : Bool) → (a && b && false) ≡ false
-    never true true = refl
-    never true false = refl
-    never false b = refl
-
-    by_side : (t : Bool) → is_empty s ≡ t → (t || list_any is_empty sides) ≡ true → (list_any is_empty sides ≡ true → is_inside (box_of sides) c ≡ false)
-        → (int_le s.first x && int_le x s.last && is_inside (box_of sides) c) ≡ false
-    by_side true f g ih = none_between s.first s.last x (is_inside (box_of sides) c) (lt_from_test s.last s.first f)
-    by_side false f g ih = ap (λ (m : Bool). int_le s.first x && int_le x s.last && m) (ih g) ∙ never (int_le s.first x) (int_le x s.last)
-
 -- nothing of one group lies in a box without places; whether the source is broken shows in any part of it
-none_of_all : (gs : List Aggregate) (sides : Sides) → list_any is_empty sides ≡ true → (rows : List Row) → within (box_of sides) (aggregate_rows [] gs rows) ≡ []
+none_of_all : (gs : List Aggregate) (sides : Sides) → has_empty sides ≡ true → (rows : List Row) → within (box_of sides) (aggregate_rows [] gs rows) ≡ []
 none_of_all gs sides e rows = ap (λ (b : Bool). cond b (placed (pos 0 ∷ []) (aggregates_of gs rows) ∷ []) []) (empty_box sides (pos 0 ∷ []) e)
 
 no_rows : List Row → List Row
 no_rows rows = []
 
-all_empty : (gs : List Aggregate) (sides : Sides) (part : Bounds) → list_any is_empty sides ≡ true → (r : Result (List Row) Broken)
+all_empty : (gs : List Aggregate) (sides : Sides) (part : Bounds) → has_empty sides ≡ true → (r : Result (List Row) Broken)
     → if_whole (within (box_of sides)) (if_whole (aggregate_rows [] gs) r) ≡ if_whole no_rows (if_whole (within part) r)
 unfolding no_rows
 all_empty gs sides part e (Ok rows) = ap (λ (l : List Row). Ok l) (none_of_all gs sides e rows)
 all_empty gs sides part e (Err broken) = refl
 
-pub alike_empty : (gs : List Aggregate) (sides : Sides) (part : Bounds) → list_any is_empty sides ≡ true → (x y : Result (List Row) Broken) → if_whole (within part) x ≡ if_whole (within part) y
+pub alike_empty : (gs : List Aggregate) (sides : Sides) (part : Bounds) → has_empty sides ≡ true → (x y : Result (List Row) Broken) → if_whole (within part) x ≡ if_whole (within part) y
     → if_whole (within (box_of sides)) (if_whole (aggregate_rows [] gs) x) ≡ if_whole (within (box_of sides)) (if_whole (aggregate_rows [] gs) y)
 alike_empty gs sides part e x y h = all_empty gs sides part e x ∙ ap (λ (r : Result (List Row) Broken). if_whole no_rows r) h ∙ sym (all_empty gs sides part e y)

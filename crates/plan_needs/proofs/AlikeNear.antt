@@ -29,6 +29,7 @@ use Rattle.logical_plan.specs.CellOps.{filter_cell, filter_rows, apply_cell, app
 use Rattle.logical_plan.specs.Groups.{window, window_cell, window_rows}
 use Rattle.logical_plan.specs.PlanSchema.{schema_of}
 use Rattle.logical_plan.specs.Query.{Query, built, listed, scanned, filtered, applied, projected, between, subarray, sliced, joined, crossed, redimensioned, regridded, windowed, aggregated}
+use Rattle.logical_plan.specs.Query.{sorted, ranked, cumulated, transposed, reversed, unpacked, xgridded, merged, concatenated}
 use Rattle.logical_plan.specs.Typing.{IsTyped, is_box_of}
 use Rattle.logical_plan.proofs.BuiltRows.{all-follows}
 use Rattle.plan_needs.specs.Needs.{is_scan}
@@ -40,8 +41,7 @@ use Rattle.plan_needs.proofs.AlikeSteps.{box_shared}
 use Rattle.plan_needs.proofs.AlikeWindows.{changed_where, same_window}
 use Rattle.plan_needs.proofs.BoxLaws.{held}
 use Rattle.plan_needs.proofs.Inside.{side_parts, side_from}
-use Rattle.plan_needs.proofs.InsidePlans.{all_tested}
-use Rattle.plan_needs.proofs.RowLists.{all_where}
+use Rattle.plan_needs.proofs.RowLists.{all_where, all_tested}
 
 -- ---- a scan under operators that keep places
 
@@ -100,6 +100,15 @@ scan_part (redimensioned source schema gs) w rows k = absurd (false≢true k)
 scan_part (regridded source sizes gs) w rows k = absurd (false≢true k)
 scan_part (windowed source reach gs) w rows k = absurd (false≢true k)
 scan_part (aggregated source gs places) w rows k = absurd (false≢true k)
+scan_part (sorted source keys schema) w rows k = absurd (false≢true k)
+scan_part (ranked source x dims) w rows k = absurd (false≢true k)
+scan_part (cumulated source gs n) w rows k = absurd (false≢true k)
+scan_part (transposed source) w rows k = absurd (false≢true k)
+scan_part (reversed source) w rows k = absurd (false≢true k)
+scan_part (unpacked source schema) w rows k = absurd (false≢true k)
+scan_part (xgridded source sizes) w rows k = absurd (false≢true k)
+scan_part (merged left right) w rows k = absurd (false≢true k)
+scan_part (concatenated left right) w rows k = absurd (false≢true k)
 
 -- ---- where the cells of a scan stand
 
@@ -249,3 +258,12 @@ scan_places (redimensioned source schema gs) sides dims rows k t e all = absurd 
 scan_places (regridded source sizes gs) sides dims rows k t e all = absurd (false≢true k)
 scan_places (windowed source reach gs) sides dims rows k t e all = absurd (false≢true k)
 scan_places (aggregated source gs places) sides dims rows k t e all = absurd (false≢true k)
+scan_places (sorted source keys schema) sides dims rows k t e all = absurd (false≢true k)
+scan_places (ranked source x named) sides dims rows k t e all = absurd (false≢true k)
+scan_places (cumulated source gs n) sides dims rows k t e all = absurd (false≢true k)
+scan_places (transposed source) sides dims rows k t e all = absurd (false≢true k)
+scan_places (reversed source) sides dims rows k t e all = absurd (false≢true k)
+scan_places (unpacked source schema) sides dims rows k t e all = absurd (false≢true k)
+scan_places (xgridded source sizes) sides dims rows k t e all = absurd (false≢true k)
+scan_places (merged left right) sides dims rows k t e all = absurd (false≢true k)
+scan_places (concatenated left right) sides dims rows k t e all = absurd (false≢true k)

@@ -1,6 +1,6 @@
 -- What a part and a slice need of their source.
-use Rattle.std.proofs.Common.{◌≡◌, ℕ, suc, ◌+◌, ◌-◌, ◌^◌, ℤ, pos, negsuc, ◌+ℤ◌, ◌-ℤ◌, ◌≤ℤ◌, Bool, true, false, List, [], ◌∷◌, length, cond, Option, Some, None, Result, Ok, Err, refl, sym, ap, ◌∙◌, subst, arith}
-use Rattle.std.specs.Prelude.{◌||◌, ◌==◌, slice_index_or, IfOk, ⊤}
+use Rattle.std.proofs.Common.{◌≡◌, ℕ, zero, suc, ◌+◌, ◌-◌, ◌^◌, ℤ, pos, negsuc, ◌+ℤ◌, ◌-ℤ◌, ◌≤ℤ◌, Bool, true, false, List, [], ◌∷◌, length, cond, Option, Some, None, Result, Ok, Err, refl, sym, ap, ◌∙◌, subst, arith}
+use Rattle.std.specs.Prelude.{◌||◌, ◌==◌, int_lt, slice_get, slice_index_or, IfOk, ⊤}
 use Rattle.std.specs.Int.{int_max, int_min, w64, saturate_signed}
 use Rattle.std.specs.List.{AllByRecursion, list_any, list_all, find}
 use Rattle.std.specs.Option.{option_map}
@@ -22,10 +22,11 @@ use Rattle.logical_plan.specs.declared.parts.Fixed.{Fixed}
 use Rattle.logical_plan.specs.BoxOps.{items_but, fixed_places, has_fixed, subarray_rows, slice_rows}
 use Rattle.logical_plan.specs.Faults.{if_whole}
 use Rattle.plan_needs.specs.declared.stretch.Stretch.{Stretch}
-use Rattle.plan_needs.specs.Sides.{Sides, box_of, of_subarray, next_side, filled, held_at, of_slice}
+use Rattle.plan_needs.specs.Sides.{Sides, box_of, of_subarray, next_side, filled, held_at, misses, has_beyond, of_slice}
 use Rattle.plan_needs.specs.Stretches.{stretch, lifted}
 use Rattle.plan_needs.proofs.AlikeScans.{low_length}
 use Rattle.plan_needs.proofs.AlikeSteps.{needless, needless_of}
+use Rattle.plan_needs.proofs.EmptyBoxes.{still_inside, length-unless_nothing}
 use Rattle.plan_needs.proofs.Inside.{AreInside, Inside, side_parts, side_from}
 
 -- ---- what depends on a part alone is alike where the parts are
@@ -193,13 +194,35 @@ held_number (f ∷ fixed) z n x e all =
         let here : f.at ≡ x = sym at ∙ ap (λ (k : ℕ). slice_index_or z k (pos 0)) (eqb-true f.dimension n t) ∙ e in
         (omega (arith, ints), omega (arith, ints))
 
+-- a number within bounds does not miss them
+number_meets : (dims : List Dimension) (c : Coordinate) (f : Fixed) (n : ℕ) → is_inside (bounds_of dims) c ≡ true → int_eq (slice_index_or c n (pos 0)) f.at ≡ true → misses f (slice_get dims n) ≡ false
+number_meets [] c f n e h = refl
+number_meets (d ∷ dims) [] f n e h = absurd (false≢true e)
+number_meets (d ∷ dims) (x ∷ c) f zero e h = let p = side_parts d.lo d.hi x (is_inside (bounds_of dims) c) e in within_side d.lo d.hi x f.at p.0 p.1 h
+  where
+    below : (l h x y : ℤ) → l ≤ℤ x → x ≤ℤ h → int_eq x y ≡ true → int_lt y l ≡ false
+    below l h x y a b t = grind (arith, ints)
+
+    above : (l h x y : ℤ) → l ≤ℤ x → x ≤ℤ h → int_eq x y ≡ true → int_lt h y ≡ false
+    above l h x y a b t = grind (arith, ints)
+
+    within_side : (l h x y : ℤ) → l ≤ℤ x → x ≤ℤ h → int_eq x y ≡ true → (int_lt y l || int_lt h y) ≡ false
+    within_side l h x y a b t = λ i. below l h x y a b t i || above l h x y a b t i
+number_meets (d ∷ dims) (x ∷ c) f (suc n) e h = number_meets dims c f n (side_parts d.lo d.hi x (is_inside (bounds_of dims) c) e).2 h
+
+none_beyond : (dims : List Dimension) (fixed : List Fixed) (c : Coordinate) → is_inside (bounds_of dims) c ≡ true → has_fixed fixed c ≡ true → has_beyond dims fixed ≡ false
+none_beyond dims [] c e h = refl
+none_beyond dims (f ∷ fixed) c e h =
+    let p = and_parts (int_eq (slice_index_or c f.dimension (pos 0)) f.at) (list_all (λ g. int_eq (slice_index_or c g.dimension (pos 0)) g.at) fixed) h in
+    λ i. number_meets dims c f f.dimension e p.0 i || none_beyond dims fixed c e p.1 i
+
 slice_depends : (dims : List Dimension) (fixed : List Fixed) (sides : Sides) (rows : List Row) → AreInside dims rows
     → within (box_of sides) (slice_rows fixed rows) ≡ within (box_of sides) (slice_rows fixed (within (box_of (of_slice dims fixed sides)) rows))
 slice_depends dims fixed sides rows i =
     needless_of (Inside dims) (λ (row : Row). is_inside (box_of sides) row.at.items) (moved (items_but (fixed_places fixed) 0)) (λ (row : Row). has_fixed fixed row.at.items)
     (λ (row : Row). is_inside (box_of (of_slice dims fixed sides)) row.at.items)
-    (λ row inside e f. filled_inside (held_at fixed) (fixed_places fixed) (λ k. named_fixed k fixed) 0 dims sides row.at.items inside
-    (given_hold (held_at fixed) row.at.items (λ n x same. held_number fixed row.at.items n x same e) 0 row.at.items (λ k. ap (λ (m : ℕ). slice_index_or row.at.items m (pos 0)) (from_zero k))) f) rows i
+    (λ row inside e f. still_inside (has_beyond dims fixed) (filled (held_at fixed) 0 dims sides) row.at.items (none_beyond dims fixed row.at.items inside e) (filled_inside (held_at fixed) (fixed_places fixed) (λ k. named_fixed k fixed) 0 dims sides row.at.items inside
+    (given_hold (held_at fixed) row.at.items (λ n x same. held_number fixed row.at.items n x same e) 0 row.at.items (λ k. ap (λ (m : ℕ). slice_index_or row.at.items m (pos 0)) (from_zero k))) f)) rows i
   where
     from_zero : (k : ℕ) → 0 + k ≡ k
     from_zero k = omega arith
@@ -225,4 +248,4 @@ length-filled given places same n (d ∷ dims) sides e =
     by_given None ih (s ∷ rest) f = ap suc (ih rest (omega arith))
 
 pub length-slice : (dims : List Dimension) (fixed : List Fixed) (sides : Sides) → length sides ≡ length (items_but (fixed_places fixed) 0 dims) → length (of_slice dims fixed sides) ≡ length dims
-length-slice dims fixed sides e = length-filled (held_at fixed) (fixed_places fixed) (λ k. named_fixed k fixed) 0 dims sides e
+length-slice dims fixed sides e = length-unless_nothing (has_beyond dims fixed) (filled (held_at fixed) 0 dims sides) ∙ length-filled (held_at fixed) (fixed_places fixed) (λ k. named_fixed k fixed) 0 dims sides e

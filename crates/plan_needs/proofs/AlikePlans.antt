@@ -3,9 +3,9 @@ use Rattle.std.proofs.Common.{◌≡◌, ℕ, suc, ◌+◌, ◌≤◌, ℤ, Bool
 use Rattle.std.specs.Prelude.{◌&&◌, ◌==◌, nat_le, IfOk}
 use Rattle.std.specs.Int.{int_max}
 use Rattle.std.specs.Ordering.{int_eq}
-use Rattle.std.specs.List.{AllZip, list_any, list_all}
+use Rattle.std.specs.List.{AllZip, list_all}
 use Rattle.std.proofs.lemmas.Bool.{false≢true, and_parts, eqb-true}
-use Rattle.std.proofs.lemmas.List.{length-map}
+use Rattle.std.proofs.lemmas.List.{length-map, length-reverse}
 use Rattle.cell_values.specs.declared.datum.Broken.{Broken}
 use Rattle.cell_values.specs.declared.datum.Row.{Row}
 use Rattle.cell_values.specs.declared.schema.Attribute.{Attribute}
@@ -25,30 +25,39 @@ use Rattle.logical_plan.specs.Faults.{if_whole}
 use Rattle.logical_plan.specs.Groups.{window_rows, aggregate_rows}
 use Rattle.logical_plan.specs.Joins.{right_places}
 use Rattle.logical_plan.specs.Leaves.{leaves}
-use Rattle.logical_plan.specs.Meaning.{Database, meaning, version_rows, redimensioned_from}
+use Rattle.logical_plan.specs.Meaning.{Database, meaning, version_rows, redimensioned_from, sorted_from}
 use Rattle.logical_plan.specs.PlanSchema.{schema_of, subarray_dimensions, in_blocks, renamed_dimension, free_names, side_by_side}
 use Rattle.logical_plan.specs.Query.{Query, built, listed, scanned, filtered, applied, projected, between, subarray, sliced, joined, crossed, redimensioned, regridded, windowed, aggregated}
-use Rattle.logical_plan.specs.Typing.{IsTyped, same_bounds, are_blocks_of, are_windows_of, are_aggregates_of, are_below, are_apart, left_places, window_size, reached_size}
+use Rattle.logical_plan.specs.Query.{sorted, ranked, cumulated, transposed, reversed, unpacked, xgridded, merged, concatenated}
+use Rattle.logical_plan.specs.ShapeMeant.{unpack_meant}
+use Rattle.logical_plan.specs.ShapeSchemas.{lengthened}
+use Rattle.logical_plan.specs.Typing.{IsTyped, same_bounds, same_kinds, are_blocks_of, are_windows_of, are_aggregates_of, are_below, are_apart, left_places, window_size, reached_size}
 use Rattle.logical_plan.proofs.SchemaLaws.{meaning_schema, typed_valid}
+use Rattle.shape_rows.specs.Laws.{CanFollow, SameBounds}
 use Rattle.plan_needs.specs.declared.stretch.Stretch.{Stretch}
 use Rattle.plan_needs.specs.Needs.{is_scan, needs}
 use Rattle.plan_needs.specs.Sufficient.{HasArrays}
-use Rattle.plan_needs.specs.Sides.{Sides, sides_of, box_of, whole, of_between, of_subarray, of_slice, of_left, of_right, of_regrid, of_aggregate, of_window, named_sides, are_near, of_windows}
-use Rattle.plan_needs.specs.Stretches.{stretch, all_of, nothing, is_empty, lifted, blocks, grown}
+use Rattle.plan_needs.specs.OrderSides.{of_cumulate, of_rank}
+use Rattle.plan_needs.specs.ShapeSides.{of_behind, of_front, of_reverse, of_transpose, of_xgrid, opposites}
+use Rattle.plan_needs.specs.Sides.{Sides, sides_of, box_of, whole, has_empty, unless_nothing, of_between, of_subarray, of_slice, of_left, of_right, of_regrid, of_aggregate, of_window, named_sides, are_near, of_windows}
+use Rattle.plan_needs.specs.Stretches.{stretch, all_of, lifted, blocks, grown}
 use Rattle.plan_needs.specs.Sufficient.{NeedsAreSufficient}
 use Rattle.plan_needs.specs.Wanted.{HaveAlike, AreAlikeAt, AreAlikeFor}
 use Rattle.plan_needs.proofs.AlikeBlocks.{alike_blocks}
 use Rattle.plan_needs.proofs.AlikeCross.{alike_crossed, length-left, length-right}
 use Rattle.plan_needs.proofs.AlikeGroups.{alike_named, alike_all, alike_empty}
 use Rattle.plan_needs.proofs.AlikeNear.{leaf_under, scan_rows, leaf_box, leaf_places, scan_places, alike_near}
+use Rattle.plan_needs.proofs.AlikeOrder.{alike_cumulate, alike_rank, length-cumulate, length-rank}
+use Rattle.plan_needs.proofs.AlikeShapes.{alike_concat, alike_merged, alike_reversed, alike_transposed, alike_xgridded, length-behind, length-front, length-xgrid}
 use Rattle.plan_needs.proofs.AlikeParts.{alike_part, alike_slice, length-slice}
 use Rattle.plan_needs.proofs.AlikeScans.{scans_alike}
 use Rattle.plan_needs.proofs.AlikeSteps.{alike_changed, alike_between, alike_joined, alike_whole}
 use Rattle.plan_needs.proofs.AlikeWindows.{alike_windows}
 use Rattle.plan_needs.proofs.BoxSides.{between_length, box_of_sides}
 use Rattle.plan_needs.proofs.BoxLaws.{box_lengths, length-by_pairs}
+use Rattle.plan_needs.proofs.EmptyBoxes.{length-unless_nothing}
 use Rattle.plan_needs.proofs.Inside.{AreInside}
-use Rattle.plan_needs.proofs.InsidePlans.{insides}
+use Rattle.plan_needs.proofs.InsidePlans.{enlarging, following, insides}
 use Rattle.plan_needs.proofs.LeafParts.{left_arrays, right_arrays}
 use Rattle.plan_needs.proofs.FreeNames.{many_names}
 
@@ -78,6 +87,23 @@ as_many (redimensioned source schema gs) sides = as_many source (whole (schema_o
 as_many (regridded source sizes gs) sides = as_many source (of_regrid (schema_of source).dimensions sizes sides)
 as_many (windowed source reach gs) sides = as_many source (of_window (is_scan source) (schema_of source).dimensions reach sides)
 as_many (aggregated source gs places) sides = as_many source (of_aggregate (schema_of source).dimensions places sides)
+as_many (sorted source keys schema) sides = as_many source (whole (schema_of source).dimensions)
+as_many (ranked source x dims) sides = as_many source (of_rank (schema_of source).dimensions dims sides)
+as_many (cumulated source gs n) sides = as_many source (of_cumulate (schema_of source).dimensions n sides)
+as_many (transposed source) sides = as_many source (of_transpose sides)
+as_many (reversed source) sides = as_many source (of_reverse (schema_of source).dimensions sides)
+as_many (unpacked source schema) sides = as_many source (whole (schema_of source).dimensions)
+as_many (xgridded source sizes) sides = as_many source (of_xgrid (schema_of source).dimensions sizes sides)
+as_many (merged left right) sides =
+    let l : length (needs left sides) ≡ length (leaves left) = as_many left sides in
+    let r : length (needs right sides) ≡ length (leaves right) = as_many right sides in
+    omega (arith, length-append (needs left sides) (needs right sides), length-append (leaves left) (leaves right))
+as_many (concatenated left right) sides =
+    let ls : Sides = of_front (schema_of left).dimensions sides in
+    let rs : Sides = of_behind (schema_of left).dimensions (schema_of right).dimensions sides in
+    let l : length (needs left ls) ≡ length (leaves left) = as_many left ls in
+    let r : length (needs right rs) ≡ length (leaves right) = as_many right rs in
+    omega (arith, length-append (needs left ls) (needs right rs), length-append (leaves left) (leaves right))
 
 zip_parts : {A B : Type 0} (R : A → B → Type 0) (xs ys : List A) (us vs : List B) → length us ≡ length xs → AllZip R (xs ++ ys) (us ++ vs) → AllZip R xs us × AllZip R ys vs
 zip_parts R [] ys [] vs e all = (tt, all)
@@ -145,6 +171,15 @@ scan_meaning db (redimensioned source schema gs) other k = absurd (false≢true 
 scan_meaning db (regridded source sizes gs) other k = absurd (false≢true k)
 scan_meaning db (windowed source reach gs) other k = absurd (false≢true k)
 scan_meaning db (aggregated source gs places) other k = absurd (false≢true k)
+scan_meaning db (sorted source keys schema) other k = absurd (false≢true k)
+scan_meaning db (ranked source x dims) other k = absurd (false≢true k)
+scan_meaning db (cumulated source gs n) other k = absurd (false≢true k)
+scan_meaning db (transposed source) other k = absurd (false≢true k)
+scan_meaning db (reversed source) other k = absurd (false≢true k)
+scan_meaning db (unpacked source schema) other k = absurd (false≢true k)
+scan_meaning db (xgridded source sizes) other k = absurd (false≢true k)
+scan_meaning db (merged left right) other k = absurd (false≢true k)
+scan_meaning db (concatenated left right) other k = absurd (false≢true k)
 
 scan_dimensions : (query : Query) (other : Leaf) → is_scan query ≡ true → (leaf_under query other).schema.dimensions ≡ (schema_of query).dimensions
 scan_dimensions (scanned leaf) other k = refl
@@ -162,6 +197,15 @@ scan_dimensions (redimensioned source schema gs) other k = absurd (false≢true 
 scan_dimensions (regridded source sizes gs) other k = absurd (false≢true k)
 scan_dimensions (windowed source reach gs) other k = absurd (false≢true k)
 scan_dimensions (aggregated source gs places) other k = absurd (false≢true k)
+scan_dimensions (sorted source keys schema) other k = absurd (false≢true k)
+scan_dimensions (ranked source x dims) other k = absurd (false≢true k)
+scan_dimensions (cumulated source gs n) other k = absurd (false≢true k)
+scan_dimensions (transposed source) other k = absurd (false≢true k)
+scan_dimensions (reversed source) other k = absurd (false≢true k)
+scan_dimensions (unpacked source schema) other k = absurd (false≢true k)
+scan_dimensions (xgridded source sizes) other k = absurd (false≢true k)
+scan_dimensions (merged left right) other k = absurd (false≢true k)
+scan_dimensions (concatenated left right) other k = absurd (false≢true k)
 
 -- the array of the leaf, and what is alike of it
 abbrev leaf_rows : Database → Query → Leaf → List Row
@@ -183,6 +227,15 @@ scan_array db (redimensioned source schema gs) other k l = absurd (false≢true 
 scan_array db (regridded source sizes gs) other k l = absurd (false≢true k)
 scan_array db (windowed source reach gs) other k l = absurd (false≢true k)
 scan_array db (aggregated source gs places) other k l = absurd (false≢true k)
+scan_array db (sorted source keys schema) other k l = absurd (false≢true k)
+scan_array db (ranked source x dims) other k l = absurd (false≢true k)
+scan_array db (cumulated source gs n) other k l = absurd (false≢true k)
+scan_array db (transposed source) other k l = absurd (false≢true k)
+scan_array db (reversed source) other k l = absurd (false≢true k)
+scan_array db (unpacked source schema) other k l = absurd (false≢true k)
+scan_array db (xgridded source sizes) other k l = absurd (false≢true k)
+scan_array db (merged left right) other k l = absurd (false≢true k)
+scan_array db (concatenated left right) other k l = absurd (false≢true k)
 
 scan_alike : (a b : Database) (query : Query) (other : Leaf) (sides : Sides) → is_scan query ≡ true → AreAlikeFor a b query (needs query sides) → HaveAlike (leaf_under query other).schema.dimensions (leaf_box query sides) (leaf_rows a query other) (leaf_rows b query other)
 scan_alike a b (scanned leaf) other sides k h = h.0
@@ -200,6 +253,15 @@ scan_alike a b (redimensioned source schema gs) other sides k h = absurd (false�
 scan_alike a b (regridded source sizes gs) other sides k h = absurd (false≢true k)
 scan_alike a b (windowed source reach gs) other sides k h = absurd (false≢true k)
 scan_alike a b (aggregated source gs places) other sides k h = absurd (false≢true k)
+scan_alike a b (sorted source keys schema) other sides k h = absurd (false≢true k)
+scan_alike a b (ranked source x dims) other sides k h = absurd (false≢true k)
+scan_alike a b (cumulated source gs n) other sides k h = absurd (false≢true k)
+scan_alike a b (transposed source) other sides k h = absurd (false≢true k)
+scan_alike a b (reversed source) other sides k h = absurd (false≢true k)
+scan_alike a b (unpacked source schema) other sides k h = absurd (false≢true k)
+scan_alike a b (xgridded source sizes) other sides k h = absurd (false≢true k)
+scan_alike a b (merged left right) other sides k h = absurd (false≢true k)
+scan_alike a b (concatenated left right) other sides k h = absurd (false≢true k)
 
 rows_in : Result (List Row) Broken → List Row
 rows_in (Ok rows) = rows
@@ -239,7 +301,8 @@ by_reach a b source reach gs sides t len la lb e ih true f h =
 by_reach a b source reach gs sides t len la lb e ih false f h =
     let dims : List Dimension = (schema_of source).dimensions in
     let long : length (of_windows dims reach sides) ≡ length dims =
-    length-by_pairs (λ (g : Stretch → Stretch) (s : Stretch). g s) (by_pairs grown dims reach) sides (e ∙ sym (length-by_pairs grown dims reach len)) ∙ length-by_pairs grown dims reach len in
+    length-unless_nothing (has_empty sides) (by_pairs (λ (g : Stretch → Stretch) (s : Stretch). g s) (by_pairs grown dims reach) sides)
+    ∙ length-by_pairs (λ (g : Stretch → Stretch) (s : Stretch). g s) (by_pairs grown dims reach) sides (e ∙ sym (length-by_pairs grown dims reach len)) ∙ length-by_pairs grown dims reach len in
     alike_windows dims reach gs sides (near_slice (schema_of source) dims refl (typed_valid source t)) len (meaning a source).rows (meaning b source).rows (insides a source t la) (insides b source t lb) (ih (of_windows dims reach sides) long h)
 
 by_groups : (a b : Database) (source : Query) (places : List ℕ) (gs : List Aggregate) (sides : Sides) → IsTyped source → HasArrays a source → HasArrays b source
@@ -248,22 +311,47 @@ by_groups : (a b : Database) (source : Query) (places : List ℕ) (gs : List Agg
     → if_whole (within (box_of sides)) (if_whole (aggregate_rows places gs) (meaning a source).rows) ≡ if_whole (within (box_of sides)) (if_whole (aggregate_rows places gs) (meaning b source).rows)
 by_groups a b source (p ∷ places) gs sides t la lb ih h =
     let dims : List Dimension = (schema_of source).dimensions in
-    alike_named dims p places gs sides (meaning a source).rows (meaning b source).rows (insides a source t la) (insides b source t lb) (ih (named_sides (p ∷ places) sides 0 dims) (length-named (p ∷ places) sides 0 dims) h)
-by_groups a b source [] gs sides t la lb ih h = by_test (list_any is_empty sides) refl h
+    alike_named dims p places gs sides (meaning a source).rows (meaning b source).rows (insides a source t la) (insides b source t lb) (ih (unless_nothing (has_empty sides) (named_sides (p ∷ places) sides 0 dims))
+    (length-unless_nothing (has_empty sides) (named_sides (p ∷ places) sides 0 dims) ∙ length-named (p ∷ places) sides 0 dims) h)
+by_groups a b source [] gs sides t la lb ih h = by_test (has_empty sides) refl h
   where
-    by_test : (b' : Bool) → list_any is_empty sides ≡ b' → AreAlikeFor a b source (needs source (cond b' (map (λ d. nothing) (schema_of source).dimensions) (whole (schema_of source).dimensions)))
+    dims : List Dimension
+    dims = (schema_of source).dimensions
+
+    by_test : (none : Bool) → has_empty sides ≡ none → AreAlikeFor a b source (needs source (unless_nothing none (whole (schema_of source).dimensions)))
         → if_whole (within (box_of sides)) (if_whole (aggregate_rows [] gs) (meaning a source).rows) ≡ if_whole (within (box_of sides)) (if_whole (aggregate_rows [] gs) (meaning b source).rows)
     by_test true e f =
-        alike_empty gs sides (box_of (map (λ (d : Dimension). nothing) (schema_of source).dimensions)) e (meaning a source).rows (meaning b source).rows
-        (ih (map (λ (d : Dimension). nothing) (schema_of source).dimensions) (length-map (schema_of source).dimensions (λ d. nothing)) f)
+        alike_empty gs sides (box_of (unless_nothing true (whole dims))) e (meaning a source).rows (meaning b source).rows
+        (ih (unless_nothing true (whole dims)) (length-unless_nothing true (whole dims) ∙ length-map dims all_of) f)
     by_test false e f =
-        alike_all (schema_of source).dimensions gs (box_of sides) (meaning a source).rows (meaning b source).rows
-        (same_source (schema_of source).dimensions (meaning a source).rows (meaning b source).rows (insides a source t la) (insides b source t lb) (ih (whole (schema_of source).dimensions) (length-map (schema_of source).dimensions all_of) f))
+        alike_all dims gs (box_of sides) (meaning a source).rows (meaning b source).rows
+        (same_source dims (meaning a source).rows (meaning b source).rows (insides a source t la) (insides b source t lb) (ih (whole dims) (length-map dims all_of) f))
 
 -- ---- all operators
 
 one_meaning : (a b : Meant) → a.schema ≡ b.schema → a.rows ≡ b.rows → a ≡ b
 one_meaning a b e f = λ i. record { schema = e i; rows = f i }
+
+-- what is made of a source of which all places are needed
+whole_source : (a b : Database) (source : Query) → IsTyped source → HasArrays a source → HasArrays b source
+    → if_whole (within (box_of (whole (schema_of source).dimensions))) (meaning a source).rows ≡ if_whole (within (box_of (whole (schema_of source).dimensions))) (meaning b source).rows
+    → (f : Meant → Result (List Row) Broken) → f (meaning a source) ≡ f (meaning b source)
+whole_source a b source t la lb h f =
+    let rows : (meaning a source).rows ≡ (meaning b source).rows =
+    same_source (schema_of source).dimensions (meaning a source).rows (meaning b source).rows (insides a source t la) (insides b source t lb) h in
+    ap f (one_meaning (meaning a source) (meaning b source) (meaning_schema a source ∙ sym (meaning_schema b source)) rows)
+
+-- an array that follows another one has as many dimensions
+follow_lengths : (d e : List Dimension) → CanFollow d e → (length (lengthened d e) ≡ length d) × (length d ≡ length e)
+follow_lengths [] e can = absurd can
+follow_lengths (l ∷ d) [] can = absurd can
+follow_lengths (l ∷ d) (r ∷ e) can = (refl, ap suc (bounds_lengths d e can.3))
+  where
+    bounds_lengths : (x y : List Dimension) → SameBounds x y → length x ≡ length y
+    bounds_lengths [] [] f = refl
+    bounds_lengths [] (b ∷ y) f = absurd f
+    bounds_lengths (b ∷ x) [] f = absurd f
+    bounds_lengths (b ∷ x) (c ∷ y) f = ap suc (bounds_lengths x y f.1)
 
 alike : (a b : Database) (query : Query) → IsTyped query → HasArrays a query → HasArrays b query → (sides : Sides) → length sides ≡ length (schema_of query).dimensions
     → AreAlikeFor a b query (needs query sides) → if_whole (within (box_of sides)) (meaning a query).rows ≡ if_whole (within (box_of sides)) (meaning b query).rows
@@ -314,11 +402,8 @@ alike a b (crossed left right pairs schema) t la lb sides s h =
     (alike a b left t.0 (left_arrays a left right schema la) (left_arrays b left right schema lb) (of_left d sides) (length-left d sides long) parts.0)
     (alike a b right t.1 (right_arrays a left right schema la) (right_arrays b left right schema lb) (of_right d e pairs sides) (length-right pairs d e sides low sum) parts.1)
 alike a b (redimensioned source schema gs) t la lb sides s h =
-    let dims : List Dimension = (schema_of source).dimensions in
-    let rows : (meaning a source).rows ≡ (meaning b source).rows =
-    same_source dims (meaning a source).rows (meaning b source).rows (insides a source t.0 la) (insides b source t.0 lb) (alike a b source t.0 la lb (whole dims) (length-map dims all_of) h) in
-    let sources : meaning a source ≡ meaning b source = one_meaning (meaning a source) (meaning b source) (meaning_schema a source ∙ sym (meaning_schema b source)) rows in
-    ap (λ (m : Meant). if_whole (within (box_of sides)) (redimensioned_from schema gs m).rows) sources
+    whole_source a b source t.0 la lb (alike a b source t.0 la lb (whole (schema_of source).dimensions) (length-map (schema_of source).dimensions all_of) h)
+    (λ m. if_whole (within (box_of sides)) (redimensioned_from schema gs m).rows)
 alike a b (regridded source sizes gs) t la lb sides s h =
     let dims : List Dimension = (schema_of source).dimensions in
     let typed = and_parts (are_blocks_of (schema_of source) sizes) (are_aggregates_of (schema_of source).attributes gs) t.1 in
@@ -326,7 +411,9 @@ alike a b (regridded source sizes gs) t la lb sides s h =
     let len : length sizes ≡ length dims = eqb-true (length sizes) (length dims) blocked.0 in
     let some : length (by_pairs in_blocks dims sizes) ≡ length dims = length-by_pairs in_blocks dims sizes len in
     let many : length (by_pairs blocks dims sizes) ≡ length dims = length-by_pairs blocks dims sizes len in
-    let long : length (of_regrid dims sizes sides) ≡ length dims = length-by_pairs (λ (f : Stretch → Stretch) (x : Stretch). f x) (by_pairs blocks dims sizes) sides (s ∙ some ∙ sym many) ∙ many in
+    let long : length (of_regrid dims sizes sides) ≡ length dims =
+    length-unless_nothing (has_empty sides) (by_pairs (λ (f : Stretch → Stretch) (x : Stretch). f x) (by_pairs blocks dims sizes) sides)
+    ∙ length-by_pairs (λ (f : Stretch → Stretch) (x : Stretch). f x) (by_pairs blocks dims sizes) sides (s ∙ some ∙ sym many) ∙ many in
     alike_blocks (schema_of source) sizes gs sides (typed_valid source t.0) len blocked.1 (meaning a source) (meaning b source) (meaning_schema a source) (meaning_schema b source)
     (insides a source t.0 la) (insides b source t.0 lb) (alike a b source t.0 la lb (of_regrid dims sizes sides) long h)
 alike a b (windowed source reach gs) t la lb sides s h =
@@ -336,6 +423,51 @@ alike a b (windowed source reach gs) t la lb sides s h =
     let second = and_parts (length reach == length dims) (nat_le (window_size reach) 16777216) first.0 in
     by_reach a b source reach gs sides t.0 (eqb-true (length reach) (length dims) second.0) la lb s (λ some e i. alike a b source t.0 la lb some e i) (is_scan source && are_near reach dims) refl h
 alike a b (aggregated source gs places) t la lb sides s h = by_groups a b source places gs sides t.0 la lb (λ some e i. alike a b source t.0 la lb some e i) h
+alike a b (sorted source keys schema) t la lb sides s h =
+    whole_source a b source t.0 la lb (alike a b source t.0 la lb (whole (schema_of source).dimensions) (length-map (schema_of source).dimensions all_of) h)
+    (λ m. if_whole (within (box_of sides)) (sorted_from keys schema m).rows)
+alike a b (ranked source x places) t la lb sides s h =
+    let dims : List Dimension = (schema_of source).dimensions in
+    alike_rank dims x places sides s (meaning a source).rows (meaning b source).rows (insides a source t.0 la) (insides b source t.0 lb)
+    (alike a b source t.0 la lb (of_rank dims places sides) (length-rank dims places sides s) h)
+alike a b (cumulated source gs n) t la lb sides s h =
+    let dims : List Dimension = (schema_of source).dimensions in
+    alike_cumulate dims n gs sides s (meaning a source).rows (meaning b source).rows (insides a source t.0 la) (insides b source t.0 lb)
+    (alike a b source t.0 la lb (of_cumulate dims n sides) (length-cumulate dims n sides s) h)
+alike a b (transposed source) t la lb sides s h =
+    let dims : List Dimension = (schema_of source).dimensions in
+    alike_transposed dims sides (meaning a source).rows (meaning b source).rows (insides a source t.0 la) (insides b source t.0 lb)
+    (alike a b source t.0 la lb (of_transpose sides) (length-reverse sides ∙ s ∙ length-reverse dims) h)
+alike a b (reversed source) t la lb sides s h =
+    let dims : List Dimension = (schema_of source).dimensions in
+    alike_reversed (schema_of source) sides (near_slice (schema_of source) dims refl (typed_valid source t.0)) (meaning a source) (meaning b source) (meaning_schema a source) (meaning_schema b source)
+    (insides a source t.0 la) (insides b source t.0 lb) (alike a b source t.0 la lb (of_reverse dims sides) (length-by_pairs opposites dims sides s) h)
+alike a b (unpacked source schema) t la lb sides s h =
+    whole_source a b source t.0 la lb (alike a b source t.0 la lb (whole (schema_of source).dimensions) (length-map (schema_of source).dimensions all_of) h)
+    (λ m. if_whole (within (box_of sides)) (unpack_meant schema m).rows)
+alike a b (xgridded source sizes) t la lb sides s h =
+    let dims : List Dimension = (schema_of source).dimensions in
+    let en = enlarging (schema_of source) sizes (typed_valid source t.0) t.1 in
+    alike_xgridded (schema_of source) sizes sides (near_slice (schema_of source) dims refl (typed_valid source t.0)) en (meaning a source) (meaning b source) (meaning_schema a source) (meaning_schema b source)
+    (insides a source t.0 la) (insides b source t.0 lb) (alike a b source t.0 la lb (of_xgrid dims sizes sides) (length-xgrid dims sizes sides en s) h)
+alike a b (merged left right) t la lb sides s h =
+    let parts = zip_parts (AreAlikeAt a b) (leaves left) (leaves right) (needs left sides) (needs right sides) (as_many left sides) h in
+    let same : length (schema_of left).dimensions ≡ length (schema_of right).dimensions =
+    equal_lengths (schema_of left).dimensions (schema_of right).dimensions (and_parts (same_bounds (schema_of left).dimensions (schema_of right).dimensions) (same_kinds (schema_of left).attributes (schema_of right).attributes) t.2).0 in
+    alike_merged (box_of sides) (meaning a left).rows (meaning a right).rows (meaning b left).rows (meaning b right).rows
+    (alike a b left t.0 (left_arrays a left right (schema_of left) la) (left_arrays b left right (schema_of left) lb) sides s parts.0)
+    (alike a b right t.1 (right_arrays a left right (schema_of left) la) (right_arrays b left right (schema_of left) lb) sides (s ∙ same) parts.1)
+alike a b (concatenated left right) t la lb sides s h =
+    let d : List Dimension = (schema_of left).dimensions in
+    let e : List Dimension = (schema_of right).dimensions in
+    let lengths = follow_lengths d e (following (schema_of left) (schema_of right) (typed_valid left t.0) (typed_valid right t.1) t.2) in
+    let parts = zip_parts (AreAlikeAt a b) (leaves left) (leaves right) (needs left (of_front d sides)) (needs right (of_behind d e sides)) (as_many left (of_front d sides)) h in
+    alike_concat (schema_of left) (schema_of right) sides (near_slice (schema_of left) d refl (typed_valid left t.0)) (near_slice (schema_of right) e refl (typed_valid right t.1)) (meaning a left) (meaning a right) (meaning b left) (meaning b right)
+    (meaning_schema a left) (meaning_schema a right) (meaning_schema b left) (meaning_schema b right)
+    (insides a left t.0 (left_arrays a left right (schema_of left) la)) (insides a right t.1 (right_arrays a left right (schema_of left) la))
+    (insides b left t.0 (left_arrays b left right (schema_of left) lb)) (insides b right t.1 (right_arrays b left right (schema_of left) lb))
+    (alike a b left t.0 (left_arrays a left right (schema_of left) la) (left_arrays b left right (schema_of left) lb) (of_front d sides) (length-front d sides (s ∙ lengths.0)) parts.0)
+    (alike a b right t.1 (right_arrays a left right (schema_of left) la) (right_arrays b left right (schema_of left) lb) (of_behind d e sides) (length-behind d e sides (s ∙ lengths.0 ∙ lengths.1)) parts.1)
 
 pub needs_are_sufficient : NeedsAreSufficient
 needs_are_sufficient a b query t la lb h =

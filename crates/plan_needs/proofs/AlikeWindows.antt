@@ -10,7 +10,7 @@ use Rattle.cell_values.specs.declared.datum.Cell.{Cell}
 use Rattle.cell_values.specs.declared.datum.Cell.TheVariants.{Full, Doubt}
 use Rattle.cell_values.specs.declared.datum.Row.{Row}
 use Rattle.cell_values.specs.declared.schema.Dimension.{Dimension}
-use Rattle.array_rows.specs.Boxes.{is_inside, within, bounds_of}
+use Rattle.array_rows.specs.Boxes.{by_pairs, is_inside, within, bounds_of}
 use Rattle.array_rows.specs.Cellwise.{cell_wise, put_first}
 use Rattle.array_rows.specs.Rows.{Coordinate, rows_where}
 use Rattle.array_rows.proofs.RowsLemmas.{within-cell_wise}
@@ -26,6 +26,7 @@ use Rattle.plan_needs.specs.Stretches.{stretch, all_of, is_empty, shared, grown}
 use Rattle.plan_needs.proofs.AlikeBlocks.{both_below, both_above}
 use Rattle.plan_needs.proofs.AlikeGroups.{implied}
 use Rattle.plan_needs.proofs.AlikeParts.{alike_by, sat_low, sat_high}
+use Rattle.plan_needs.proofs.EmptyBoxes.{needed_inside}
 use Rattle.plan_needs.proofs.Inside.{AreInside, Inside, side_parts, side_from}
 
 -- ---- rows of which something holds, changed in two ways
@@ -73,20 +74,24 @@ grown_held d r s x y near a b f g l h = by_test (is_empty s) refl
       both_above d.hi (saturate_signed w64 (s.last +ℤ pos r.after)) y b (sat_high (s.last +ℤ pos r.after) y ends high),
     )
 
-windows_hold : (dims : List Dimension) (reach : List Reach) (sides : Sides) (c z : Coordinate) → AreNear dims → is_inside (bounds_of dims) z ≡ true → is_inside (box_of sides) c ≡ true → is_inside (window reach c) z ≡ true
-    → is_inside (box_of (of_windows dims reach sides)) z ≡ true
-windows_hold [] reach sides c [] near e f g = refl
-windows_hold [] reach sides c (y ∷ z) near e f g = absurd (false≢true e)
-windows_hold (d ∷ dims) reach sides c [] near e f g = absurd (false≢true e)
-windows_hold (d ∷ dims) reach sides [] (y ∷ z) near e f g = absurd (false≢true g)
-windows_hold (d ∷ dims) [] sides (x ∷ c) (y ∷ z) near e f g = absurd (false≢true g)
-windows_hold (d ∷ dims) (r ∷ reach) [] (x ∷ c) (y ∷ z) near e f g = absurd (false≢true f)
-windows_hold (d ∷ dims) (r ∷ reach) (s ∷ sides) (x ∷ c) (y ∷ z) near e f g =
+grown_hold : (dims : List Dimension) (reach : List Reach) (sides : Sides) (c z : Coordinate) → AreNear dims → is_inside (bounds_of dims) z ≡ true → is_inside (box_of sides) c ≡ true → is_inside (window reach c) z ≡ true
+    → is_inside (box_of (by_pairs (λ g s. g s) (by_pairs grown dims reach) sides)) z ≡ true
+grown_hold [] reach sides c [] near e f g = refl
+grown_hold [] reach sides c (y ∷ z) near e f g = absurd (false≢true e)
+grown_hold (d ∷ dims) reach sides c [] near e f g = absurd (false≢true e)
+grown_hold (d ∷ dims) reach sides [] (y ∷ z) near e f g = absurd (false≢true g)
+grown_hold (d ∷ dims) [] sides (x ∷ c) (y ∷ z) near e f g = absurd (false≢true g)
+grown_hold (d ∷ dims) (r ∷ reach) [] (x ∷ c) (y ∷ z) near e f g = absurd (false≢true f)
+grown_hold (d ∷ dims) (r ∷ reach) (s ∷ sides) (x ∷ c) (y ∷ z) near e f g =
     let p = side_parts d.lo d.hi y (is_inside (bounds_of dims) z) e in
     let q = side_parts s.first s.last x (is_inside (box_of sides) c) f in
     let w = side_parts (x -ℤ pos r.before) (x +ℤ pos r.after) y (is_inside (window reach c) z) g in
     let t = grown_held d r s x y near.0 p.0 p.1 q.0 q.1 w.0 w.1 in
-    side_from (grown d r s).first (grown d r s).last y _ t.0 t.1 (windows_hold dims reach sides c z near.1 p.2 q.2 w.2)
+    side_from (grown d r s).first (grown d r s).last y _ t.0 t.1 (grown_hold dims reach sides c z near.1 p.2 q.2 w.2)
+
+windows_hold : (dims : List Dimension) (reach : List Reach) (sides : Sides) (c z : Coordinate) → AreNear dims → is_inside (bounds_of dims) z ≡ true → is_inside (box_of sides) c ≡ true → is_inside (window reach c) z ≡ true
+    → is_inside (box_of (of_windows dims reach sides)) z ≡ true
+windows_hold dims reach sides c z near e f g = needed_inside sides (by_pairs (λ (h : Stretch → Stretch) (s : Stretch). h s) (by_pairs grown dims reach) sides) c z f (grown_hold dims reach sides c z near e f g)
 
 own_window : (reach : List Reach) (c : Coordinate) → length reach ≡ length c → is_inside (window reach c) c ≡ true
 own_window [] [] e = refl

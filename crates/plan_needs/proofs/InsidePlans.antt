@@ -1,6 +1,6 @@
 -- Each cell that a typed plan means lies within the bounds of its schema.
-use Rattle.std.proofs.Common.{◌≡◌, ℕ, ◌+◌, ◌-ℤ◌, Bool, true, false, List, [], ◌∷◌, ◌++◌, map, filter, length, take, cond, Option, Some, None, Result, Ok, Err, refl, sym, ap, ◌∙◌, subst, length-append, length-take, arith}
-use Rattle.std.specs.Prelude.{◌&&◌, not, IfOk, IsTrue, ⊤}
+use Rattle.std.proofs.Common.{◌≡◌, ℕ, ◌+◌, ◌-ℤ◌, Bool, true, false, List, [], ◌∷◌, ◌++◌, map, length, take, cond, Option, Some, None, Result, Ok, Err, refl, sym, ap, ◌∙◌, subst, length-append, length-take, arith}
+use Rattle.std.specs.Prelude.{◌&&◌, not, nat_le, reverse, IfOk, IsTrue, ⊤}
 use Rattle.std.specs.List.{AllByRecursion, list_any}
 use Rattle.std.specs.Ordering.{is_eq}
 use Rattle.std.proofs.lemmas.List.{length-map}
@@ -31,28 +31,24 @@ use Rattle.logical_plan.specs.Groups.{bad_kind, number_of, first_some, block, gr
 use Rattle.logical_plan.specs.Joins.{cell_beside, join_rows, agree, cross_at, cross_rows, right_places}
 use Rattle.logical_plan.specs.Meaning.{Database, meaning}
 use Rattle.logical_plan.specs.PlanSchema.{schema_of, subarray_dimensions, subarray_schema, in_blocks, group_dimensions, free_names, side_by_side}
+use Rattle.logical_plan.specs.Ordered.{cumulate_cell, cumulate_rows, rank_cell, rank_rows, sort_rows}
 use Rattle.logical_plan.specs.Query.{Query, built, listed, scanned, filtered, applied, projected, between, subarray, sliced, joined, crossed, redimensioned, regridded, windowed, aggregated}
+use Rattle.logical_plan.specs.Query.{sorted, ranked, cumulated, transposed, reversed, unpacked, xgridded, merged, concatenated}
 use Rattle.logical_plan.specs.Redimension.{Origin, origin_of, value_origin, Landing, lands, drops, breaks, target_value, counted_places, alike_so_far, counted_up, landing_at, unless_fault, landing_of, Landed, after_landing, landed, carried, landed_at, by_names, redimension_rows}
-use Rattle.logical_plan.specs.Typing.{IsTyped, are_below, are_aggregates_of}
+use Rattle.logical_plan.specs.Shapes.{transpose_rows, unpack_rows}
+use Rattle.logical_plan.specs.Typing.{IsTyped, are_below, are_aggregates_of, can_enlarge, can_follow, concatenates, enlarges, merges, product_of, same_bounds, same_kinds}
 use Rattle.logical_plan.proofs.ArrayLaws.{typed_arrays}
 use Rattle.logical_plan.proofs.BuiltRows.{all-map, all-flat_map, all-follows}
 use Rattle.logical_plan.proofs.SchemaLaws.{meaning_schema, typed_valid}
 use Rattle.array_geom.proofs.TestLaws.{and_parts}
 use Rattle.plan_needs.specs.Sufficient.{HasArrays}
+use Rattle.shape_rows.specs.Laws.{AllEnlarge, CanFollow, SameBounds}
+use Rattle.shape_rows.proofs.TypedLaws.{all_enlarge, bounds_are_same, follows}
+use Rattle.plan_needs.proofs.InsideShapes.{numbers_inside, transposed_inside, reversed_of, xgridded_of, merged_inside, concat_of}
 use Rattle.plan_needs.proofs.Inside.{AreInside, Inside, changed_inside, part_inside, but_inside, renamed_bounds, beside_inside, named_inside, blocks_inside}
-use Rattle.plan_needs.proofs.RowLists.{all_where, all_in_order}
+use Rattle.plan_needs.proofs.RowLists.{all_where, all_in_order, all_tested}
 use Rattle.plan_needs.proofs.LeafParts.{left_arrays, right_arrays}
 use Rattle.plan_needs.proofs.FreeNames.{many_names}
-
--- ---- rows that pass a test
-
-pub all_tested : {A : Type 0} (test : A → Bool) (xs : List A) → AllByRecursion (λ x. test x ≡ true) (filter test xs)
-all_tested test [] = tt
-all_tested {A = A} test (x ∷ xs) = by_test (test x) refl (all_tested test xs)
-  where
-    by_test : (b : Bool) → test x ≡ b → AllByRecursion (λ z. test z ≡ true) (filter test xs) → AllByRecursion (λ z. test z ≡ true) (cond b (x ∷ filter test xs) (filter test xs))
-    by_test true e ih = (e, ih)
-    by_test false e ih = ih
 
 if_inside : (d e : List Dimension) (f : List Row → List Row) → ((rows : List Row) → AreInside d rows → AreInside e (f rows)) → (r : Result (List Row) Broken) → IfOk r (AreInside d) → IfOk (if_whole f r) (AreInside e)
 if_inside d e f h (Ok rows) i = h rows i
@@ -229,6 +225,19 @@ blocks_of sizes gs schema valid m same i =
     (if_inside dims (by_pairs in_blocks dims sizes) (regrid_rows (bounds_of dims).lo.items sizes gs)
     (grouped_inside dims (by_pairs in_blocks dims sizes) (λ c. by_pairs (λ b x. b x) (by_pairs block (bounds_of dims).lo.items sizes) c) gs (λ c e. blocks_inside dims sizes c (near_slice schema dims refl valid) e)) m.rows i)
 
+-- what the rules of typing say of the bounds
+
+pub enlarging : (schema : Schema) (sizes : List ℕ) → IsValid schema → IsTrue (enlarges schema sizes) → AllEnlarge schema.dimensions sizes
+enlarging schema sizes valid t =
+    all_enlarge schema.dimensions sizes (near_slice schema schema.dimensions refl valid) (and_parts (can_enlarge schema.dimensions sizes) (nat_le (product_of sizes) 65536) t).0
+
+pub merging : (left right : Schema) → IsTrue (merges left right) → SameBounds left.dimensions right.dimensions
+merging left right t = bounds_are_same left.dimensions right.dimensions (and_parts (same_bounds left.dimensions right.dimensions) (same_kinds left.attributes right.attributes) t).0
+
+pub following : (left right : Schema) → IsValid left → IsValid right → IsTrue (concatenates left right) → CanFollow left.dimensions right.dimensions
+following left right valid valid' t =
+    follows left.dimensions right.dimensions (near_slice left left.dimensions refl valid) (near_slice right right.dimensions refl valid') (and_parts (can_follow left.dimensions right.dimensions) (same_kinds left.attributes right.attributes) t).0
+
 pub insides : (db : Database) (query : Query) → IsTyped query → HasArrays db query → IfOk (meaning db query).rows (AreInside (schema_of query).dimensions)
 insides db (built schema e) t l = array_inside schema (meaning db (built schema e)).rows (typed_arrays db (built schema e) refl t l)
 insides db (listed schema rows) t l = t.1.are_rows.in_bounds
@@ -263,3 +272,23 @@ insides db (aggregated source gs places) t l =
     let d : List Dimension = (schema_of source).dimensions in
     let typed = and_parts (are_below (length d) places) (are_aggregates_of (schema_of source).attributes gs) t.1 in
     if_inside d (group_dimensions places d) (aggregate_rows places gs) (aggregated_inside d places gs typed.0) (meaning db source).rows (insides db source t.0 l)
+insides db (sorted source keys schema) t l = numbers_inside schema (and_then (sort_rows keys) (meaning db source).rows)
+insides db (ranked source x places) t l =
+    let d : List Dimension = (schema_of source).dimensions in
+    if_inside d d (rank_rows x places) (λ rows i. changed_inside d (rank_cell x places rows) rows i) (meaning db source).rows (insides db source t.0 l)
+insides db (cumulated source gs n) t l =
+    let d : List Dimension = (schema_of source).dimensions in
+    if_inside d d (cumulate_rows n gs) (λ rows i. changed_inside d (cumulate_cell n gs rows) rows i) (meaning db source).rows (insides db source t.0 l)
+insides db (transposed source) t l =
+    let d : List Dimension = (schema_of source).dimensions in
+    if_inside d (reverse d) transpose_rows (transposed_inside d) (meaning db source).rows (insides db source t.0 l)
+insides db (reversed source) t l = reversed_of (schema_of source) (meaning db source) (meaning_schema db source) (insides db source t.0 l)
+insides db (unpacked source schema) t l = numbers_inside schema (and_then unpack_rows (meaning db source).rows)
+insides db (xgridded source sizes) t l =
+    xgridded_of sizes (schema_of source) (enlarging (schema_of source) sizes (typed_valid source t.0) t.1) (meaning db source) (meaning_schema db source) (insides db source t.0 l)
+insides db (merged left right) t l =
+    merged_inside (schema_of left).dimensions (schema_of right).dimensions (merging (schema_of left) (schema_of right) t.2) (meaning db left).rows (meaning db right).rows
+    (insides db left t.0 (left_arrays db left right (schema_of left) l)) (insides db right t.1 (right_arrays db left right (schema_of left) l))
+insides db (concatenated left right) t l =
+    concat_of (schema_of left) (schema_of right) (following (schema_of left) (schema_of right) (typed_valid left t.0) (typed_valid right t.1) t.2) (meaning db left) (meaning db right) (meaning_schema db left) (meaning_schema db right)
+    (insides db left t.0 (left_arrays db left right (schema_of left) l)) (insides db right t.1 (right_arrays db left right (schema_of left) l))

@@ -1,5 +1,5 @@
 -- What holds of all rows of a list, through operators on lists of rows.
-use Rattle.std.proofs.Common.{Bool, true, false, List, [], ◌∷◌, map, filter, cond}
+use Rattle.std.proofs.Common.{◌≡◌, Bool, true, false, List, [], ◌∷◌, map, filter, cond, refl}
 use Rattle.std.specs.List.{AllByRecursion}
 use Rattle.std.specs.declared.cmp.Ordering.{Ordering}
 use Rattle.std.specs.declared.cmp.Ordering.TheVariants.{Less, Equal, Greater}
@@ -14,6 +14,15 @@ all_where {A = A} P test (x ∷ xs) ps = by_test (test x) (all_where P test xs p
     by_test : (b : Bool) → AllByRecursion P (filter test xs) → AllByRecursion P (cond b (x ∷ filter test xs) (filter test xs))
     by_test true ih = (ps.0, ih)
     by_test false ih = ih
+
+-- rows that pass a test
+pub all_tested : {A : Type 0} (test : A → Bool) (xs : List A) → AllByRecursion (λ x. test x ≡ true) (filter test xs)
+all_tested test [] = tt
+all_tested {A = A} test (x ∷ xs) = by_test (test x) refl (all_tested test xs)
+  where
+    by_test : (b : Bool) → test x ≡ b → AllByRecursion (λ z. test z ≡ true) (filter test xs) → AllByRecursion (λ z. test z ≡ true) (cond b (x ∷ filter test xs) (filter test xs))
+    by_test true e ih = (e, ih)
+    by_test false e ih = ih
 
 all_put : (P : Row → Type 0) (new : Row) (rows : List Row) → P new → AllByRecursion P rows → AllByRecursion P (put_row new rows)
 all_put P new [] p ps = (p, tt)

@@ -1,4 +1,7 @@
+pub mod Inner
 pub mod Needs
+pub mod OrderSides
+pub mod ShapeSides
 pub mod Sides
 pub mod Stretches
 pub mod Sufficient

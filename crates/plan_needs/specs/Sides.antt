@@ -1,5 +1,5 @@
 -- Boxes, dimension by dimension: what an operator needs of its source for a box of its result.
-use Rattle.std.specs.Prelude.{ℕ, ◌+◌, ◌==◌, Bool, true, false, ◌&&◌, nat_le, if◌then◌else◌, List}
+use Rattle.std.specs.Prelude.{ℕ, ◌+◌, ◌==◌, Bool, true, false, ◌&&◌, ◌||◌, nat_le, int_lt, if◌then◌else◌, List}
 use Rattle.std.specs.Prelude.{[], ◌∷◌, map, length, take, drop, slice_get, Option, Some, None}
 use Rattle.std.specs.List.{find, list_any}
 use Rattle.std.specs.Option.{option_map, option_and_then}
@@ -26,6 +26,14 @@ box_of sides = corners (map (λ s. s.first) sides) (map (λ s. s.last) sides)
 abbrev pub whole : List Dimension → Sides
 whole = map all_of
 
+-- a box without places
+abbrev pub has_empty : Sides → Bool
+has_empty sides = list_any is_empty sides
+
+-- the box, or no place of any dimension where nothing is needed
+abbrev pub unless_nothing : Bool → Sides → Sides
+unless_nothing none sides = if none then map (λ s. nothing) sides else sides
+
 -- ---- boxes
 
 -- between: what the two boxes share
@@ -50,9 +58,17 @@ filled given n (d ∷ dims) sides = next_side (given n) d sides (λ rest. filled
 abbrev pub held_at : List Fixed → ℕ → Option Stretch
 held_at fixed n = option_map (λ f. stretch f.at f.at) (find (λ f. f.dimension == n) fixed)
 
--- slice: the box with the fixed numbers
+-- a number that is held is beyond the bounds of its dimension
+abbrev pub misses : Fixed → Option Dimension → Bool
+misses f None = false
+misses f (Some d) = int_lt f.at d.lo || int_lt d.hi f.at
+
+abbrev pub has_beyond : List Dimension → List Fixed → Bool
+has_beyond dims fixed = list_any (λ f. misses f (slice_get dims f.dimension)) fixed
+
+-- slice: the box with the fixed numbers; nothing where one of them is beyond its bounds
 abbrev pub of_slice : List Dimension → List Fixed → Sides → Sides
-of_slice dims fixed sides = filled (held_at fixed) 0 dims sides
+of_slice dims fixed sides = unless_nothing (has_beyond dims fixed) (filled (held_at fixed) 0 dims sides)
 
 -- ---- joins
 
@@ -73,9 +89,9 @@ of_right left right pairs sides = filled (paired_with pairs sides) 0 right (drop
 
 -- ---- groups
 
--- regrid: the places whose blocks are in the box
+-- regrid: the places whose blocks are in the box. This and what follows needs nothing for a box without places
 abbrev pub of_regrid : List Dimension → List ℕ → Sides → Sides
-of_regrid dims sizes sides = by_pairs (λ f s. f s) (by_pairs blocks dims sizes) sides
+of_regrid dims sizes sides = unless_nothing (has_empty sides) (by_pairs (λ f s. f s) (by_pairs blocks dims sizes) sides)
 
 -- the side at the place at which a dimension is named, if it is named
 abbrev pub side_named : List ℕ → Sides → ℕ → Option Stretch
@@ -94,8 +110,8 @@ named_sides places sides n (d ∷ dims) = clipped d (side_named places sides n) 
 
 -- aggregate: the places whose groups are in the box. Without named dimensions there is one group of all
 abbrev pub of_aggregate : List Dimension → List ℕ → Sides → Sides
-of_aggregate dims [] sides = if list_any is_empty sides then map (λ d. nothing) dims else whole dims
-of_aggregate dims (place ∷ places) sides = named_sides (place ∷ places) sides 0 dims
+of_aggregate dims [] sides = unless_nothing (has_empty sides) (whole dims)
+of_aggregate dims (place ∷ places) sides = unless_nothing (has_empty sides) (named_sides (place ∷ places) sides 0 dims)
 
 -- ---- windows
 
@@ -110,8 +126,9 @@ are_near (r ∷ reach) (d ∷ dims) = is_near r d && are_near reach dims
 
 -- what the windows of the box reach
 abbrev pub of_windows : List Dimension → List Reach → Sides → Sides
-of_windows dims reach sides = by_pairs (λ f s. f s) (by_pairs grown dims reach) sides
+of_windows dims reach sides = unless_nothing (has_empty sides) (by_pairs (λ f s. f s) (by_pairs grown dims reach) sides)
 
--- window: the box alone, where each chunk of a scan has what its windows reach
+-- window: the box alone, where each chunk of a scan has what its windows reach. A scan has one leaf, of which a box without places
+-- meets no chunk
 abbrev pub of_window : Bool → List Dimension → List Reach → Sides → Sides
 of_window is_scan dims reach sides = if is_scan && are_near reach dims then sides else of_windows dims reach sides

@@ -1,16 +1,28 @@
 //! What an operator needs of its source.
-ghost use Rattle.std.specs.Prelude.{◌≡◌, map};
+ghost use Rattle.std.specs.Prelude.{◌≡◌};
 ghost use Rattle.cell_values.specs.Schemas.{IsValid};
-ghost use Rattle.plan_needs.specs.Sides.{are_near, of_aggregate, of_between, named_sides, of_left};
-ghost use Rattle.plan_needs.specs.Sides.{of_regrid, of_right, of_slice, of_subarray, of_windows, whole};
-ghost use Rattle.plan_needs.specs.Stretches.{nothing};
+ghost use Rattle.plan_needs.specs.Sides.{are_near, named_sides, of_aggregate, of_between, of_left};
+ghost use Rattle.plan_needs.specs.Sides.{of_regrid, of_right, of_slice, of_subarray, of_windows, unless_nothing, whole};
 
 use crate::sides::{
-    Sides, any_empty, push_blocks, push_first, push_grown, push_held, push_lifted, push_lows,
-    push_named, push_nothing, push_right, push_shared, push_whole, sides_of,
+    Sides, has_beyond, has_empty, push_blocks, push_first, push_grown, push_held, push_lifted,
+    push_lows, push_named, push_nothing, push_right, push_shared, push_whole, sides_of,
 };
 use cell_values::{Bounds, Coord, Dimension, List, Schema};
 use logical_plan::{Fixed, Pair, Reach};
+
+/// The box, or nothing of any dimension where nothing is needed. A cross join needs of each source what the box has of that source's
+/// dimensions: of both it needs nothing only where no side has a place.
+pub(crate) fn unless_nothing(none: bool, sides: Sides) -> Sides
+    ensures { result.items ≡ unless_nothing none sides.items }
+{
+    if !none {
+        return sides;
+    }
+    let mut nothing = Sides::new();
+    push_nothing(&mut nothing, sides.as_slice());
+    nothing
+}
 
 pub(crate) fn of_between(area: &Bounds, sides: &Sides) -> Sides
     ensures { result.items ≡ of_between area.now sides.now.items }
@@ -55,7 +67,10 @@ pub(crate) fn of_slice(schema: &Schema, fixed: &List<Fixed>, sides: &Sides) -> S
         fixed,
         sides.as_slice(),
     );
-    needed
+    unless_nothing(
+        has_beyond(schema.dimensions.as_slice(), fixed.as_slice()),
+        needed,
+    )
 }
 
 /// The left dimensions' sides of a box of a cross join.
@@ -100,17 +115,7 @@ pub(crate) fn of_regrid(schema: &Schema, sizes: &List<u64>, sides: &Sides) -> Si
         sizes.as_slice(),
         sides.as_slice(),
     );
-    needed
-}
-
-#[tactic(auto, using(array_geom::proofs::MarginLaws::few_dimensions))]
-fn nothing(schema: &Schema) -> Sides
-    requires { IsValid schema.now }
-    ensures { result.items ≡ map (λ d. nothing) schema.now.dimensions }
-{
-    let mut needed = Sides::new();
-    push_nothing(&mut needed, schema.dimensions.as_slice());
-    needed
+    unless_nothing(has_empty(sides.as_slice()), needed)
 }
 
 #[tactic(auto, using(array_geom::proofs::MarginLaws::few_dimensions))]
@@ -133,16 +138,11 @@ pub(crate) fn of_aggregate(schema: &Schema, places: &List<u32>, sides: &Sides) -
     requires { IsValid schema.now }
     ensures { result.items ≡ of_aggregate schema.now.dimensions places.now sides.now.items }
 {
-    match places.as_slice() {
-        [] => {
-            if any_empty(sides.as_slice()) {
-                nothing(schema)
-            } else {
-                whole(schema)
-            }
-        }
+    let needed = match places.as_slice() {
+        [] => whole(schema),
         _ => named(schema, places.as_slice(), sides),
-    }
+    };
+    unless_nothing(has_empty(sides.as_slice()), needed)
 }
 
 /// Whether no window reaches farther than its dimension's overlap.
@@ -170,5 +170,5 @@ pub(crate) fn of_windows(schema: &Schema, reach: &List<Reach>, sides: &Sides) ->
         reach.as_slice(),
         sides.as_slice(),
     );
-    needed
+    unless_nothing(has_empty(sides.as_slice()), needed)
 }

@@ -1,191 +1,26 @@
 //! What a plan needs of its leaves.
 ghost use Rattle.std.specs.Prelude.{◌≡◌, ◌++◌, IfOk, OnOk};
-ghost use Rattle.logical_plan.specs.PlanSchema.{schema_of};
 ghost use Rattle.logical_plan.specs.Typing.{IsTyped};
-ghost use Rattle.plan_needs.specs.Needs.{is_scan, need, needs};
-ghost use Rattle.plan_needs.specs.Sides.{of_aggregate, of_left, of_regrid, of_right, of_slice, of_subarray, of_window, whole};
-ghost use Rattle.plan_needs.specs.Sides.{Sides as BoxSides};
+ghost use Rattle.plan_needs.specs.Inner.ByArity.{leaf_needs};
+ghost use Rattle.plan_needs.specs.Needs.{need, needs};
 
-use crate::boxes::{
-    are_near, of_aggregate, of_between, of_left, of_regrid, of_right, of_slice, of_subarray,
-    of_windows, whole,
-};
-use crate::sides::{Sides, box_of, copy_sides, sides_of};
+use crate::sides::{Sides, box_of, sides_of};
+use crate::sources::{of_left_source, of_right_source, of_source};
 use cell_values::{Bounds, List, Memory};
-use logical_plan::{Fixed, Pair, Plan, PlanNode, Reach};
-use plan_schemas::schema_of;
+use logical_plan::{LeafNode, Plan, PlanShape};
 use std::alloc::Global;
 
-/// Whether the plan is a scan under filters, applies, projects and betweens alone.
-fn is_scan(plan: &Plan) -> bool
-    ensures { result ≡ is_scan plan.now }
+/// Adds the box of a stored array.
+fn push_leaf(found: &mut List<Bounds>, node: LeafNode<'_>, sides: &Sides) -> Result<(), Memory>
+    ensures { OnOk result (found.new ≡ found.old ++ leaf_needs node.entry sides.now.items) }
 {
-    match &plan.node {
-        PlanNode::Scan(_) => true,
-        PlanNode::Filter(source, _) => is_scan(source),
-        PlanNode::Apply(source, _) => is_scan(source),
-        PlanNode::Project(source, _) => is_scan(source),
-        PlanNode::Between(source, _) => is_scan(source),
-        PlanNode::Build(..)
-        | PlanNode::Literal(..)
-        | PlanNode::Subarray(..)
-        | PlanNode::Slice(..)
-        | PlanNode::Join(..)
-        | PlanNode::CrossJoin(..)
-        | PlanNode::Redimension(..)
-        | PlanNode::Regrid(..)
-        | PlanNode::Window(..)
-        | PlanNode::Aggregate(..) => false,
+    match node {
+        LeafNode::Build(_, _) | LeafNode::Literal(_, _) => Ok(()),
+        LeafNode::Scan(_) => found.push(box_of(sides)),
     }
-}
-
-#[tactic(auto, using(logical_plan::proofs::SchemaLaws::typed_valid))]
-fn of_part(alloc: Global, source: &Plan, area: &Bounds, sides: &Sides) -> Result<Sides, Memory>
-    requires { IsTyped source.now }
-    ensures { IfOk result (λ r. r.items ≡ of_subarray (schema_of source.now).dimensions area.now sides.now.items) }
-{
-    Ok(of_subarray(&schema_of(alloc, source)?, area, sides))
-}
-
-#[tactic(auto, using(logical_plan::proofs::SchemaLaws::typed_valid))]
-fn of_fixed(
-    alloc: Global,
-    source: &Plan,
-    fixed: &List<Fixed>,
-    sides: &Sides,
-) -> Result<Sides, Memory>
-    requires { IsTyped source.now }
-    ensures { IfOk result (λ r. r.items ≡ of_slice (schema_of source.now).dimensions fixed.now sides.now.items) }
-{
-    Ok(of_slice(&schema_of(alloc, source)?, fixed, sides))
-}
-
-fn of_first(alloc: Global, left: &Plan, sides: &Sides) -> Result<Sides, Memory>
-    ensures { IfOk result (λ r. r.items ≡ of_left (schema_of left.now).dimensions sides.now.items) }
-{
-    Ok(of_left(&schema_of(alloc, left)?.dimensions, sides))
-}
-
-#[tactic(auto, using(logical_plan::proofs::SchemaLaws::typed_valid))]
-fn of_second(
-    alloc: Global,
-    left: &Plan,
-    right: &Plan,
-    pairs: &List<Pair>,
-    sides: &Sides,
-) -> Result<Sides, Memory>
-    requires { IsTyped right.now }
-    ensures { IfOk result (λ r. r.items ≡ of_right (schema_of left.now).dimensions (schema_of right.now).dimensions pairs.now sides.now.items) }
-{
-    let left = schema_of(alloc, left)?;
-    let right = schema_of(alloc, right)?;
-    Ok(of_right(&left.dimensions, &right, pairs, sides))
-}
-
-#[tactic(auto, using(logical_plan::proofs::SchemaLaws::typed_valid))]
-fn of_all(alloc: Global, source: &Plan) -> Result<Sides, Memory>
-    requires { IsTyped source.now }
-    ensures { IfOk result (λ r. r.items ≡ whole (schema_of source.now).dimensions) }
-{
-    Ok(whole(&schema_of(alloc, source)?))
-}
-
-fn of_blocks(
-    alloc: Global,
-    source: &Plan,
-    sizes: &List<u64>,
-    sides: &Sides,
-) -> Result<Sides, Memory>
-    ensures { IfOk result (λ r. r.items ≡ of_regrid (schema_of source.now).dimensions sizes.now sides.now.items) }
-{
-    Ok(of_regrid(&schema_of(alloc, source)?, sizes, sides))
-}
-
-fn of_reach(
-    alloc: Global,
-    source: &Plan,
-    reach: &List<Reach>,
-    sides: &Sides,
-) -> Result<Sides, Memory>
-    ensures { IfOk result (λ r. r.items ≡ of_window (is_scan source.now) (schema_of source.now).dimensions reach.now sides.now.items) }
-{
-    let schema = schema_of(alloc, source)?;
-    if is_scan(source) && are_near(reach.as_slice(), schema.dimensions.as_slice()) {
-        Ok(copy_sides(sides))
-    } else {
-        Ok(of_windows(&schema, reach, sides))
-    }
-}
-
-#[tactic(auto, using(logical_plan::proofs::SchemaLaws::typed_valid))]
-fn of_groups(
-    alloc: Global,
-    source: &Plan,
-    places: &List<u32>,
-    sides: &Sides,
-) -> Result<Sides, Memory>
-    requires { IsTyped source.now }
-    ensures { IfOk result (λ r. r.items ≡ of_aggregate (schema_of source.now).dimensions places.now sides.now.items) }
-{
-    Ok(of_aggregate(&schema_of(alloc, source)?, places, sides))
-}
-
-/// Adds the box of each leaf of a source of which these sides are needed, from left to right.
-#[cycle(push_needs)]
-fn push_source(
-    alloc: Global,
-    found: &mut List<Bounds>,
-    source: &Plan,
-    sides: Result<Sides, Memory>,
-) -> Result<(), Memory>
-    requires { IsTyped source.now }
-    ensures { (needed : BoxSides) → IfOk sides (λ s. s.items ≡ needed) → OnOk result (found.new ≡ found.old ++ needs source.now needed) }
-{
-    match sides {
-        Ok(sides) => push_needs(alloc, found, source, &sides),
-        Err(Memory) => Err(Memory),
-    }
-}
-
-/// Adds the box of each leaf of two sources of which the same sides are needed.
-#[cycle(push_needs)]
-fn push_both(
-    alloc: Global,
-    found: &mut List<Bounds>,
-    left: &Plan,
-    right: &Plan,
-    sides: &Sides,
-) -> Result<(), Memory>
-    requires left { IsTyped left.now }
-    requires right { IsTyped right.now }
-    ensures { OnOk result (found.new ≡ found.old ++ (needs left.now sides.now.items ++ needs right.now sides.now.items)) }
-{
-    push_needs(alloc, found, left, sides)?;
-    push_needs(alloc, found, right, sides)
-}
-
-/// Adds the box of each leaf of the sources of a cross join.
-#[cycle(push_needs)]
-fn push_crossed(
-    alloc: Global,
-    found: &mut List<Bounds>,
-    left: &Plan,
-    right: &Plan,
-    pairs: &List<Pair>,
-    sides: &Sides,
-) -> Result<(), Memory>
-    requires left { IsTyped left.now }
-    requires right { IsTyped right.now }
-    ensures { OnOk result (found.new ≡ found.old ++ (needs left.now (of_left (schema_of left.now).dimensions sides.now.items)
-        ++ needs right.now (of_right (schema_of left.now).dimensions (schema_of right.now).dimensions pairs.now sides.now.items))) }
-{
-    push_source(alloc, found, left, of_first(alloc, left, sides))?;
-    let second = of_second(alloc, left, right, pairs, sides);
-    push_source(alloc, found, right, second)
 }
 
 /// Adds the box of each leaf, from left to right.
-#[cycle(push_needs)]
 fn push_needs(
     alloc: Global,
     found: &mut List<Bounds>,
@@ -195,40 +30,17 @@ fn push_needs(
     requires { IsTyped plan.now }
     ensures { OnOk result (found.new ≡ found.old ++ needs plan.now sides.now.items) }
 {
-    match &plan.node {
-        PlanNode::Build(_, _) | PlanNode::Literal(_, _) => Ok(()),
-        PlanNode::Scan(_) => found.push(box_of(sides)),
-        PlanNode::Filter(source, _) | PlanNode::Apply(source, _) | PlanNode::Project(source, _) =>
-            push_needs(alloc, found, source, sides),
-        PlanNode::Between(source, area) => {
-            push_needs(alloc, found, source, &of_between(area, sides))
+    match plan.shape() {
+        PlanShape::Leaf(node) => push_leaf(found, node, sides),
+        PlanShape::Unary(source, node) => {
+            let needed = of_source(alloc, source, node, sides)?;
+            push_needs(alloc, found, source, &needed)
         }
-        PlanNode::Subarray(source, area) => {
-            push_source(alloc, found, source, of_part(alloc, source, area, sides))
-        }
-        PlanNode::Slice(source, fixed) => {
-            push_source(alloc, found, source, of_fixed(alloc, source, fixed, sides))
-        }
-        PlanNode::Join(left, right, _) => push_both(alloc, found, left, right, sides),
-        PlanNode::CrossJoin(left, right, pairs, _) => {
-            push_crossed(alloc, found, left, right, pairs, sides)
-        }
-        PlanNode::Redimension(source, _, _) => {
-            push_source(alloc, found, source, of_all(alloc, source))
-        }
-        PlanNode::Regrid(source, sizes, _) => {
-            push_source(alloc, found, source, of_blocks(alloc, source, sizes, sides))
-        }
-        PlanNode::Window(source, reach, _) => {
-            push_source(alloc, found, source, of_reach(alloc, source, reach, sides))
-        }
-        PlanNode::Aggregate(source, _, places) => {
-            push_source(
-                alloc,
-                found,
-                source,
-                of_groups(alloc, source, places, sides),
-            )
+        PlanShape::Binary(left, right, node) => {
+            let first = of_left_source(alloc, left, node, sides)?;
+            push_needs(alloc, found, left, &first)?;
+            let second = of_right_source(alloc, left, right, node, sides)?;
+            push_needs(alloc, found, right, &second)
         }
     }
 }

@@ -1,9 +1,9 @@
 //! Boxes, dimension by dimension.
 ghost use Rattle.std.specs.Prelude.{◌≡◌, ◌+◌, ◌≤◌, ◌++◌, length, map, slice_get, take};
 ghost use Rattle.std.specs.Int.{int_max};
-ghost use Rattle.std.specs.List.{list_any};
 ghost use Rattle.array_rows.specs.Boxes.{by_pairs, bounds_of};
-ghost use Rattle.plan_needs.specs.Sides.{box_of, clipped, filled, held_at, left_of, named_sides, paired_with, side_named, sides_of, whole};
+ghost use Rattle.plan_needs.specs.Sides.{box_of, clipped, filled, has_beyond, has_empty, held_at, left_of, misses, named_sides};
+ghost use Rattle.plan_needs.specs.Sides.{paired_with, side_named, sides_of, whole};
 ghost use Rattle.plan_needs.specs.Stretches.{blocks, grown, is_empty, lifted, nothing, shared, stretch};
 
 use crate::stretch::{Stretch, all_of, blocks, grown, is_empty, lifted, shared};
@@ -357,16 +357,16 @@ pub(crate) fn push_named(
     }
 }
 
-/// Adds nothing of each dimension.
-pub(crate) fn push_nothing(out: &mut Sides, dimensions: &[Dimension])
-    requires { length out.old.items + length dimensions.now ≤ 6 }
-    ensures { out.new.items ≡ out.old.items ++ map (λ d. nothing) dimensions.now }
+/// Adds nothing for each side.
+pub(crate) fn push_nothing(out: &mut Sides, sides: &[Stretch])
+    requires { length out.old.items + length sides.now ≤ 6 }
+    ensures { out.new.items ≡ out.old.items ++ map (λ s. nothing) sides.now }
 {
-    match dimensions {
+    match sides {
         [] => {}
-        [_, dimensions @ ..] => {
+        [_, sides @ ..] => {
             out.push(Stretch { first: 1, last: 0 });
-            push_nothing(out, dimensions);
+            push_nothing(out, sides);
         }
     }
 }
@@ -387,11 +387,30 @@ pub(crate) fn push_first(out: &mut Sides, count: usize, sides: &[Stretch])
     }
 }
 
-pub(crate) fn any_empty(sides: &[Stretch]) -> bool
-    ensures { result ≡ list_any is_empty sides.now }
+pub(crate) fn has_empty(sides: &[Stretch]) -> bool
+    ensures { result ≡ has_empty sides.now }
 {
     match sides {
         [] => false,
-        [side, sides @ ..] => is_empty(*side) || any_empty(sides),
+        [side, sides @ ..] => is_empty(*side) || has_empty(sides),
+    }
+}
+
+/// Whether a number that is held is beyond the bounds of its dimension.
+fn misses(fixed: &Fixed, dimensions: &[Dimension]) -> bool
+    ensures { result ≡ misses fixed.now (slice_get dimensions.now fixed.now.dimension) }
+{
+    match dimensions.get(fixed.dimension as usize) {
+        Some(dimension) => fixed.at < dimension.lo || dimension.hi < fixed.at,
+        None => false,
+    }
+}
+
+pub(crate) fn has_beyond(dimensions: &[Dimension], fixed: &[Fixed]) -> bool
+    ensures { result ≡ has_beyond dimensions.now fixed.now }
+{
+    match fixed {
+        [] => false,
+        [f, fixed @ ..] => misses(f, dimensions) || has_beyond(dimensions, fixed),
     }
 }

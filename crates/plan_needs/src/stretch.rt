@@ -74,7 +74,7 @@ fn block_first(low: i64, size: u64, x: i64) -> i64
 
 /// The last place of a block.
 #[tactic(auto, using(crate::proofs::Saturated::farther))]
-fn block_last(low: i64, size: u64, x: i64) -> i64
+pub(crate) fn block_last(low: i64, size: u64, x: i64) -> i64
     ensures { result ≡ block_last low size x }
 {
     let before = x.abs_diff(low).saturating_mul(size);

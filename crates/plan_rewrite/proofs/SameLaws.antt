@@ -160,10 +160,10 @@ under_aggregate s r gs places h = record {
 
 -- ---- two sources
 
-both_same : {A B C : Type 0} (f : A → B → C) (a a' : A) (b b' : B) → a ≡ a' → b ≡ b' → f a b ≡ f a' b'
+pub both_same : {A B C : Type 0} (f : A → B → C) (a a' : A) (b b' : B) → a ≡ a' → b ≡ b' → f a b ≡ f a' b'
 both_same f a a' b b' p q = ap (λ x. f x b) p ∙ ap (f a') q
 
-both_hold : (P : Schema → Schema → Type 0) (a a' b b' : Schema) → a ≡ a' → b ≡ b' → P a' b' → P a b
+pub both_hold : (P : Schema → Schema → Type 0) (a a' b b' : Schema) → a ≡ a' → b ≡ b' → P a' b' → P a b
 both_hold P a a' b b' p q h = subst (λ (x : Schema). P x b) (sym p) (subst (λ (x : Schema). P a' x) (sym q) h)
 
 pub under_join : (l r l' r' : Query) (schema : Schema) → IsSame l l' → IsSame r r' → IsSame (joined l r schema) (joined l' r' schema)

@@ -7,6 +7,7 @@ use Rattle.cell_values.specs.declared.schema.Bounds.{Bounds}
 use Rattle.logical_plan.specs.declared.parts.Applied.{Applied}
 use Rattle.logical_plan.specs.PlanSchema.{schema_of}
 use Rattle.logical_plan.specs.Query.{Query, built, listed, scanned, filtered, applied, projected, between, subarray, sliced, joined, crossed, redimensioned, regridded, windowed, aggregated}
+use Rattle.logical_plan.specs.Query.{sorted, ranked, cumulated, transposed, reversed, unpacked, xgridded, merged, concatenated}
 use Rattle.logical_plan.specs.Typing.{IsTyped}
 use Rattle.plan_rewrite.specs.Inner.Pending.{boxed, shown, pending}
 use Rattle.plan_rewrite.specs.Inner.Settling.{settle}
@@ -14,6 +15,7 @@ use Rattle.plan_rewrite.specs.Inner.Trimmed.{met, picked, kept_for, places_for, 
 use Rattle.plan_rewrite.specs.Same.{IsRewritten}
 use Rattle.plan_rewrite.specs.Settled.{is_settled}
 use Rattle.plan_rewrite.proofs.SameLaws.{refl_same, under_subarray, under_slice, under_join, under_cross, under_redimension, under_regrid, under_window, under_aggregate}
+use Rattle.plan_rewrite.proofs.SameShapes.{under_sort, under_rank, under_cumulate, under_transpose, under_reverse, under_unpack, under_xgrid, under_merge, under_concat}
 use Rattle.plan_rewrite.proofs.Steps.{filter_type, filter_done, between_type, between_done, project_type, project_done, apply_type, apply_done, unused_type, unused_done, other_type, other_done}
 
 -- the project names a computed attribute, or none
@@ -64,6 +66,39 @@ settling area places (windowed source reach gs) t =
 settling area places (aggregated source gs groups) t =
     let h = settling None None source (other_type area places (aggregated source gs groups) t).0 in
     other_done area places (aggregated source gs groups) (aggregated (settle None None source) gs groups) t (under_aggregate source (settle None None source) gs groups h.is_same) refl h.settled
+settling area places (sorted source keys schema) t =
+    let h = settling None None source (other_type area places (sorted source keys schema) t).0 in
+    other_done area places (sorted source keys schema) (sorted (settle None None source) keys schema) t (under_sort source (settle None None source) keys schema h.is_same) refl h.settled
+settling area places (ranked source x dims) t =
+    let h = settling None None source (other_type area places (ranked source x dims) t).0 in
+    other_done area places (ranked source x dims) (ranked (settle None None source) x dims) t (under_rank source (settle None None source) x dims h.is_same) refl h.settled
+settling area places (cumulated source gs n) t =
+    let h = settling None None source (other_type area places (cumulated source gs n) t).0 in
+    other_done area places (cumulated source gs n) (cumulated (settle None None source) gs n) t (under_cumulate source (settle None None source) gs n h.is_same) refl h.settled
+settling area places (transposed source) t =
+    let h = settling None None source (other_type area places (transposed source) t).0 in
+    other_done area places (transposed source) (transposed (settle None None source)) t (under_transpose source (settle None None source) h.is_same) refl h.settled
+settling area places (reversed source) t =
+    let h = settling None None source (other_type area places (reversed source) t).0 in
+    other_done area places (reversed source) (reversed (settle None None source)) t (under_reverse source (settle None None source) h.is_same) refl h.settled
+settling area places (unpacked source schema) t =
+    let h = settling None None source (other_type area places (unpacked source schema) t).0 in
+    other_done area places (unpacked source schema) (unpacked (settle None None source) schema) t (under_unpack source (settle None None source) schema h.is_same) refl h.settled
+settling area places (xgridded source sizes) t =
+    let h = settling None None source (other_type area places (xgridded source sizes) t).0 in
+    other_done area places (xgridded source sizes) (xgridded (settle None None source) sizes) t (under_xgrid source (settle None None source) sizes h.is_same) refl h.settled
+settling area places (merged left right) t =
+    let typed = other_type area places (merged left right) t in
+    let f = settling None None left typed.0 in
+    let g = settling None None right typed.1 in
+    other_done area places (merged left right) (merged (settle None None left) (settle None None right)) t
+    (under_merge left right (settle None None left) (settle None None right) f.is_same g.is_same) refl (and_from (is_settled (settle None None left)) (is_settled (settle None None right)) f.settled g.settled)
+settling area places (concatenated left right) t =
+    let typed = other_type area places (concatenated left right) t in
+    let f = settling None None left typed.0 in
+    let g = settling None None right typed.1 in
+    other_done area places (concatenated left right) (concatenated (settle None None left) (settle None None right)) t
+    (under_concat left right (settle None None left) (settle None None right) f.is_same g.is_same) refl (and_from (is_settled (settle None None left)) (is_settled (settle None None right)) f.settled g.settled)
 
 pub stands : (r : Result Query Memory) (query : Query) → IsTyped query → IfOk r (λ p. p ≡ settle None None query) → IfOk r (IsRewritten query)
 stands (Ok p) query t e = subst (λ (q : Query). IsRewritten query q) (sym e) (settling None None query t)

@@ -9,6 +9,7 @@ use Rattle.expr_nulls.specs.Expr.{Expr}
 use Rattle.logical_plan.specs.declared.parts.Applied.{Applied}
 use Rattle.logical_plan.specs.PlanSchema.{schema_of}
 use Rattle.logical_plan.specs.Query.{Query, built, listed, scanned, filtered, applied, projected, between, subarray, sliced, joined, crossed, redimensioned, regridded, windowed, aggregated}
+use Rattle.logical_plan.specs.Query.{sorted, ranked, cumulated, transposed, reversed, unpacked, xgridded, merged, concatenated}
 use Rattle.logical_plan.specs.Typing.{IsTyped}
 use Rattle.plan_rewrite.specs.Inner.Pending.{boxed, shown, pending}
 use Rattle.plan_rewrite.specs.Inner.Trimmed.{kept, relocated, met, picked, kept_for, places_for, names_none}
@@ -178,6 +179,15 @@ may_show (redimensioned source schema gs) apart places = refl
 may_show (regridded source sizes gs) apart places = refl
 may_show (windowed source reach gs) apart places = refl
 may_show (aggregated source gs places) apart ps = refl
+may_show (sorted source keys schema) apart places = refl
+may_show (ranked source x dims) apart places = refl
+may_show (cumulated source gs n) apart places = refl
+may_show (transposed source) apart places = refl
+may_show (reversed source) apart places = refl
+may_show (unpacked source schema) apart places = refl
+may_show (xgridded source sizes) apart places = refl
+may_show (merged left right) apart places = refl
+may_show (concatenated left right) apart places = refl
 
 enclosed_settled : (area : Option Bounds) (places : Option (List ℕ)) (r : Query) → is_cellwise r ≡ false → is_settled r ≡ true → is_settled (pending area places r) ≡ true
 enclosed_settled None places r apart s = show_settled places r (may_show r apart) s

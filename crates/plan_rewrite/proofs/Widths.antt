@@ -1,6 +1,6 @@
 -- The cells of a typed plan have one value for each of its attributes.
-use Rattle.std.proofs.Common.{◌≡◌, ℕ, suc, ◌+◌, Bool, true, false, List, [], ◌∷◌, ◌++◌, map, filter, length, drop, cond, Option, Some, None, Result, Ok, Err, refl, sym, ap, ◌∙◌, subst, length-append, length-drop, arith}
-use Rattle.std.specs.Prelude.{◌-ℤ◌, slice_index_or, IfOk, ⊤}
+use Rattle.std.proofs.Common.{◌≡◌, ℕ, suc, ◌+◌, ℤ, true, false, List, [], ◌∷◌, ◌++◌, map, length, drop, cond, Option, Some, None, Result, Ok, Err, refl, sym, ap, ◌∙◌, subst, length-append, length-drop, arith}
+use Rattle.std.specs.Prelude.{◌-ℤ◌, slice_index_or, IfOk}
 use Rattle.std.specs.Option.{option_map}
 use Rattle.std.specs.Ordering.{is_eq}
 use Rattle.std.specs.declared.cmp.Ordering.{Ordering}
@@ -18,9 +18,9 @@ use Rattle.cell_values.specs.declared.schema.Dimension.{Dimension}
 use Rattle.cell_values.specs.declared.schema.Schema.{Schema}
 use Rattle.cell_values.specs.Cells.{AreOfKinds, IsCellOf}
 use Rattle.cell_values.specs.Schemas.{attribute_names, dimension_names}
+use Rattle.array_geom.proofs.TestLaws.{and_parts}
 use Rattle.array_rows.specs.Arrays.{AreRowsOf}
-use Rattle.array_rows.specs.Boxes.{by_pairs, is_inside, within, meet, bounds_of, moved}
-use Rattle.array_rows.specs.Cellwise.{cell_wise, put_first}
+use Rattle.array_rows.specs.Boxes.{by_pairs, is_inside, within, meet, bounds_of}
 use Rattle.array_rows.specs.Rows.{Coordinate, row_major, placed, rows_where, in_order, cell_at}
 use Rattle.expr_nulls.specs.Expr.{Expr}
 use Rattle.expr_nulls.specs.ExprValue.{value_of}
@@ -35,10 +35,14 @@ use Rattle.logical_plan.specs.Faults.{if_whole, and_then}
 use Rattle.logical_plan.specs.Groups.{block, regrid_rows, aggregates_of, group_at, grouped, aggregate_rows, window_cell, window_rows}
 use Rattle.logical_plan.specs.Joins.{cell_beside, join_rows, right_places, agree, cross_at, cross_rows}
 use Rattle.logical_plan.specs.Meaning.{Database, meaning, version_rows}
-use Rattle.logical_plan.specs.PlanSchema.{schema_of, derived, aggregate_kind, free_names, renamed_attribute, side_by_side, join_schema, cross_schema, apply_schema, project_schema, regrid_schema, window_schema, aggregate_schema}
+use Rattle.logical_plan.specs.PlanSchema.{schema_of, derived, aggregate_kind, free_names, renamed_attribute, side_by_side, join_schema, cross_schema, apply_schema, project_schema, rank_schema, regrid_schema, window_schema, aggregate_schema}
 use Rattle.logical_plan.specs.Query.{Query, built, listed, scanned, filtered, applied, projected, between, subarray, sliced, joined, crossed, redimensioned, regridded, windowed, aggregated}
+use Rattle.logical_plan.specs.Query.{sorted, ranked, cumulated, transposed, reversed, unpacked, xgridded, merged, concatenated}
+use Rattle.logical_plan.specs.Ordered.{cumulate_cell, cumulate_rows, rank_cell, rank_rows, sort_rows}
+use Rattle.logical_plan.specs.Shapes.{concat_rows, merge_rows, reverse_rows, step_between, transpose_rows, unpack_rows, xgrid_rows}
+use Rattle.logical_plan.specs.ShapeSchemas.{concat_schema, merge_schema}
 use Rattle.logical_plan.specs.Redimension.{Origin, origin_of, value_origin, Landed, landed, carried, landed_at, by_names, redimension_rows}
-use Rattle.logical_plan.specs.Typing.{IsTyped}
+use Rattle.logical_plan.specs.Typing.{IsTyped, can_follow, same_bounds, same_kinds}
 use Rattle.logical_plan.proofs.ArrayLaws.{typed_arrays}
 use Rattle.logical_plan.proofs.BuiltRows.{all-map, all-flat_map, all-follows}
 use Rattle.plan_needs.proofs.FreeNames.{many_names}
@@ -46,8 +50,12 @@ use Rattle.plan_rewrite.specs.Inner.Wide.{IsWide, AreWide}
 use Rattle.plan_needs.specs.Sufficient.{HasArrays}
 use Rattle.plan_rewrite.proofs.ItemPlaces.{length_picked}
 use Rattle.plan_rewrite.proofs.ProjectSteps.{applied_length}
-use Rattle.plan_needs.proofs.RowLists.{all_where, each_made}
+use Rattle.plan_needs.proofs.RowLists.{each_made}
+use Rattle.plan_needs.proofs.Inside.{AreInside}
+use Rattle.plan_needs.proofs.InsidePlans.{insides}
 use Rattle.plan_needs.proofs.LeafParts.{left_arrays, right_arrays}
+use Rattle.plan_rewrite.proofs.WideRows.{IfThere, changed_wide, if_wide, moved_wide, where_wide, within_wide}
+use Rattle.plan_rewrite.proofs.WideShapes.{both_hold_of, concatenated_wide, cumulated_wide, either_length, merged_wide, ranked_length, ranked_wide, reversed_wide, same_many, sort_wide, then_wide, transposed_wide, unpack_wide, unpacked_length, xgridded_wide}
 
 -- ---- cells of a schema
 
@@ -69,23 +77,6 @@ whole_wide schema (Ok rows) is = array_wide schema rows is
 whole_wide schema (Err broken) is = is
 
 -- ---- cell by cell
-
-IfThere : ℕ → Option Cell → Type 0
-IfThere n None = ⊤
-IfThere n (Some cell) = IsWide n cell
-
-changed_wide : (m n : ℕ) (change : Coordinate → Cell → Option Cell) → ((c : Coordinate) (cell : Cell) → IsWide m cell → IfThere n (change c cell)) → (rows : List Row) → AreWide m rows → AreWide n (cell_wise change rows)
-unfolding IfThere
-changed_wide m n change h [] w = tt
-changed_wide m n change h (row ∷ rows) w = here (change row.at.items row.cell) (h row.at.items row.cell w.0) (changed_wide m n change h rows w.1)
-  where
-    here : (o : Option Cell) → IfThere n o → AreWide n (cell_wise change rows) → AreWide n (put_first row.at.items o (cell_wise change rows))
-    here None t ih = ih
-    here (Some cell) t ih = (t, ih)
-
-if_wide : (m n : ℕ) (f : List Row → List Row) → ((rows : List Row) → AreWide m rows → AreWide n (f rows)) → (r : Result (List Row) Broken) → IfOk r (AreWide m) → IfOk (if_whole f r) (AreWide n)
-if_wide m n f h (Ok rows) w = h rows w
-if_wide m n f h (Err broken) w = w
 
 kept_wide : (n : ℕ) (test : Datum) (vs : List Datum) → length vs ≡ n → IfThere n (kept_cell test vs)
 unfolding IfThere
@@ -112,14 +103,6 @@ projected_wide : (m : ℕ) (places : List ℕ) (c : Coordinate) (cell : Cell) �
 unfolding IfThere
 projected_wide m places c (Full vs) e = length-map places (λ place. slice_index_or vs place Null)
 projected_wide m places c (Doubt kind) e = tt
-
--- ---- parts, and rows at other places
-
-where_wide : (n : ℕ) (test : Row → Bool) (rows : List Row) → AreWide n rows → AreWide n (filter test rows)
-where_wide n test rows w = all_where (λ (row : Row). IsWide n row.cell) test rows w
-
-moved_wide : (n : ℕ) (to : Coordinate → Coordinate) (rows : List Row) → AreWide n rows → AreWide n (map (moved to) rows)
-moved_wide n to rows w = all-map (λ (row : Row). IsWide n row.cell) (moved to) rows w
 
 -- ---- joins
 
@@ -297,3 +280,45 @@ widths db (windowed source reach gs) t l =
 widths db (aggregated source gs places) t l =
     as_long (length gs) (length (aggregate_schema gs places (schema_of source)).attributes) (meaning db (aggregated source gs places)).rows (length-map gs (λ g. derived g.name (aggregate_kind (schema_of source).attributes g)))
     (any_wide (length gs) (aggregate_rows places gs) (aggregated_wide places gs) (meaning db source).rows)
+widths db (sorted source keys schema) t l =
+    let n : ℕ = length (schema_of source).attributes in
+    as_long n (length schema.attributes) (meaning db (sorted source keys schema)).rows (ap (λ (x : Schema). length x.attributes) t.2)
+    (if_wide n n (within (bounds_of schema.dimensions)) (within_wide n (bounds_of schema.dimensions)) (and_then (sort_rows keys) (meaning db source).rows)
+    (then_wide (AreWide n) n (sort_rows keys) (sort_wide n keys) (meaning db source).rows (widths db source t.0 l)))
+widths db (ranked source x dims) t l =
+    let n : ℕ = length (schema_of source).attributes in
+    as_long 2 (length (rank_schema x (schema_of source)).attributes) (meaning db (ranked source x dims)).rows (ranked_length (schema_of source) x dims t.1)
+    (if_wide n 2 (rank_rows x dims) (λ rows. changed_wide n 2 (rank_cell x dims rows) (ranked_wide x dims rows n) rows) (meaning db source).rows (widths db source t.0 l))
+widths db (cumulated source gs d) t l =
+    let n : ℕ = length (schema_of source).attributes in
+    as_long (length gs) (length (window_schema gs (schema_of source)).attributes) (meaning db (cumulated source gs d)).rows (length-map gs (λ g. derived g.name (aggregate_kind (schema_of source).attributes g)))
+    (if_wide n (length gs) (cumulate_rows d gs) (λ rows. changed_wide n (length gs) (cumulate_cell d gs rows) (cumulated_wide d gs rows n) rows) (meaning db source).rows (widths db source t.0 l))
+widths db (transposed source) t l = let n : ℕ = length (schema_of source).attributes in if_wide n n transpose_rows (transposed_wide n) (meaning db source).rows (widths db source t.0 l)
+widths db (reversed source) t l =
+    let n : ℕ = length (schema_of source).attributes in
+    let dims : List Dimension = (meaning db source).schema.dimensions in
+    if_wide n n (reverse_rows dims) (reversed_wide n dims) (meaning db source).rows (widths db source t.0 l)
+widths db (unpacked source schema) t l =
+    let n : ℕ = length (schema_of source).attributes in
+    let dims : List Dimension = (schema_of source).dimensions in
+    as_long (length dims + n) (length schema.attributes) (meaning db (unpacked source schema)).rows (unpacked_length (schema_of source) schema _ t.1)
+    (if_wide (length dims + n) (length dims + n) (within (bounds_of schema.dimensions)) (within_wide (length dims + n) (bounds_of schema.dimensions)) (and_then unpack_rows (meaning db source).rows)
+    (then_wide (λ rows. AreWide n rows × AreInside dims rows) (length dims + n) unpack_rows (λ rows both. unpack_wide n dims rows both.0 both.1) (meaning db source).rows
+    (both_hold_of (AreWide n) (AreInside dims) (meaning db source).rows (widths db source t.0 l) (insides db source t.0 l))))
+widths db (xgridded source sizes) t l =
+    let n : ℕ = length (schema_of source).attributes in
+    let dims : List Dimension = (meaning db source).schema.dimensions in
+    if_wide n n (xgrid_rows dims sizes) (xgridded_wide n dims sizes) (meaning db source).rows (widths db source t.0 l)
+widths db (merged left right) t l =
+    let n : ℕ = length (schema_of left).attributes in
+    let same = (and_parts (same_bounds (schema_of left).dimensions (schema_of right).dimensions) (same_kinds (schema_of left).attributes (schema_of right).attributes) t.2).1 in
+    as_long n (length (merge_schema (schema_of left) (schema_of right)).attributes) (meaning db (merged left right)).rows (either_length (schema_of left).attributes (schema_of right).attributes same)
+    (both_wide n n n merge_rows (merged_wide n) (meaning db left).rows (meaning db right).rows (widths db left t.0 (left_arrays db left right (schema_of left) l))
+    (as_long (length (schema_of right).attributes) n (meaning db right).rows (sym (same_many (schema_of left).attributes (schema_of right).attributes same)) (widths db right t.1 (right_arrays db left right (schema_of left) l))))
+widths db (concatenated left right) t l =
+    let n : ℕ = length (schema_of left).attributes in
+    let by : ℤ = step_between (meaning db left).schema.dimensions (meaning db right).schema.dimensions in
+    let same = (and_parts (can_follow (schema_of left).dimensions (schema_of right).dimensions) (same_kinds (schema_of left).attributes (schema_of right).attributes) t.2).1 in
+    as_long n (length (concat_schema (schema_of left) (schema_of right)).attributes) (meaning db (concatenated left right)).rows (either_length (schema_of left).attributes (schema_of right).attributes same)
+    (both_wide n n n (concat_rows by) (concatenated_wide n by) (meaning db left).rows (meaning db right).rows (widths db left t.0 (left_arrays db left right (schema_of left) l))
+    (as_long (length (schema_of right).attributes) n (meaning db right).rows (sym (same_many (schema_of left).attributes (schema_of right).attributes same)) (widths db right t.1 (right_arrays db left right (schema_of left) l))))

@@ -1,5 +1,4 @@
 pub mod Pending
 pub mod Settling
-pub mod Shapes
 pub mod Trimmed
 pub mod Wide

@@ -4,6 +4,7 @@ use Rattle.std.specs.List.{list_any}
 use Rattle.logical_plan.specs.PlanSchema.{schema_of}
 use Rattle.logical_plan.specs.Query.{Query, built, listed, scanned, filtered, applied, projected, between, subarray}
 use Rattle.logical_plan.specs.Query.{sliced, joined, crossed, redimensioned, regridded, windowed, aggregated}
+use Rattle.logical_plan.specs.Query.{sorted, ranked, cumulated, transposed, reversed, unpacked, xgridded, merged, concatenated}
 
 abbrev pub is_named : ℕ → List ℕ → Bool
 is_named n places = list_any (λ place. place == n) places
@@ -43,3 +44,12 @@ is_settled (redimensioned source schema gs) = is_settled source
 is_settled (regridded source sizes gs) = is_settled source
 is_settled (windowed source reach gs) = is_settled source
 is_settled (aggregated source gs places) = is_settled source
+is_settled (sorted source keys schema) = is_settled source
+is_settled (ranked source x dims) = is_settled source
+is_settled (cumulated source gs n) = is_settled source
+is_settled (transposed source) = is_settled source
+is_settled (reversed source) = is_settled source
+is_settled (unpacked source schema) = is_settled source
+is_settled (xgridded source sizes) = is_settled source
+is_settled (merged left right) = is_settled left && is_settled right
+is_settled (concatenated left right) = is_settled left && is_settled right

@@ -4,6 +4,5 @@
 mod nodes;
 mod places;
 mod rewriting;
-mod shapes;
 
 pub use rewriting::{rewrite, rewritten};

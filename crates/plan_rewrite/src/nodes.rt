@@ -1,155 +1,17 @@
 //! Plans over plans that are given.
 ghost use Rattle.std.specs.Prelude.{◌≡◌, Some, IfOk};
 ghost use Rattle.std.specs.Option.{option_copied};
-ghost use Rattle.logical_plan.specs.Query.{filtered, applied, projected, between, subarray, sliced, joined};
-ghost use Rattle.logical_plan.specs.Query.{crossed, redimensioned, regridded, windowed, aggregated};
+ghost use Rattle.logical_plan.specs.Query.{filtered, applied, projected, between};
 ghost use Rattle.plan_rewrite.specs.Inner.Pending.{boxed, pending, shown};
 ghost use Rattle.plan_rewrite.specs.Inner.Settling.{applied_for};
 ghost use Rattle.plan_rewrite.specs.Inner.Trimmed.{met};
 
 use crate::places::kept;
 use array_geom::Boxes;
-use cell_values::{Bounds, Copies, List, Memory, Schema, copy_coord};
+use cell_values::{Bounds, List, Memory, copy_coord};
 use expr_nulls::TypedExpr;
-use logical_plan::{Aggregate, Applied, Fixed, Pair, Plan, Reach, let_go};
+use logical_plan::{Applied, Plan, let_go};
 use std::alloc::Global;
-
-/// Copies of two parts of a plan.
-fn both_copies<A: Copies + Drop, B: Copies + Drop>(a: &A, b: &B) -> Result<(A, B), Memory>
-    ensures { IfOk result (λ both. (both.0 ≡ a.now) × (both.1 ≡ b.now)) }
-{
-    let a = a.copy()?;
-    Ok((a, b.copy()?))
-}
-
-pub(crate) fn subarray_of(alloc: Global, source: Plan, area: &Bounds) -> Result<Plan, Memory>
-    ensures { IfOk result (λ p. p ≡ subarray source area.now) }
-{
-    match area.copy() {
-        Ok(area) => Plan::subarray(alloc, source, area),
-        Err(Memory) => {
-            let_go(source);
-            Err(Memory)
-        }
-    }
-}
-
-pub(crate) fn slice_of(alloc: Global, source: Plan, fixed: &List<Fixed>) -> Result<Plan, Memory>
-    ensures { IfOk result (λ p. p ≡ sliced source fixed.now) }
-{
-    match fixed.copy() {
-        Ok(fixed) => Plan::slice(alloc, source, fixed),
-        Err(Memory) => {
-            let_go(source);
-            Err(Memory)
-        }
-    }
-}
-
-pub(crate) fn join_of(
-    alloc: Global,
-    left: Plan,
-    right: Plan,
-    schema: &Schema,
-) -> Result<Plan, Memory>
-    ensures { IfOk result (λ p. p ≡ joined left right schema.now) }
-{
-    match schema.copy() {
-        Ok(schema) => Plan::join(alloc, left, right, schema),
-        Err(Memory) => {
-            let_go(left);
-            let_go(right);
-            Err(Memory)
-        }
-    }
-}
-
-pub(crate) fn cross_join_of(
-    alloc: Global,
-    left: Plan,
-    right: Plan,
-    pairs: &List<Pair>,
-    schema: &Schema,
-) -> Result<Plan, Memory>
-    ensures { IfOk result (λ p. p ≡ crossed left right pairs.now schema.now) }
-{
-    match both_copies(pairs, schema) {
-        Ok((pairs, schema)) => Plan::cross_join(alloc, left, right, pairs, schema),
-        Err(Memory) => {
-            let_go(left);
-            let_go(right);
-            Err(Memory)
-        }
-    }
-}
-
-pub(crate) fn redimension_of(
-    alloc: Global,
-    source: Plan,
-    schema: &Schema,
-    aggregates: &List<Aggregate>,
-) -> Result<Plan, Memory>
-    ensures { IfOk result (λ p. p ≡ redimensioned source schema.now aggregates.now) }
-{
-    match both_copies(schema, aggregates) {
-        Ok((schema, aggregates)) => Plan::redimension(alloc, source, schema, aggregates),
-        Err(Memory) => {
-            let_go(source);
-            Err(Memory)
-        }
-    }
-}
-
-pub(crate) fn regrid_of(
-    alloc: Global,
-    source: Plan,
-    sizes: &List<u64>,
-    aggregates: &List<Aggregate>,
-) -> Result<Plan, Memory>
-    ensures { IfOk result (λ p. p ≡ regridded source sizes.now aggregates.now) }
-{
-    match both_copies(sizes, aggregates) {
-        Ok((sizes, aggregates)) => Plan::regrid(alloc, source, sizes, aggregates),
-        Err(Memory) => {
-            let_go(source);
-            Err(Memory)
-        }
-    }
-}
-
-pub(crate) fn window_of(
-    alloc: Global,
-    source: Plan,
-    reach: &List<Reach>,
-    aggregates: &List<Aggregate>,
-) -> Result<Plan, Memory>
-    ensures { IfOk result (λ p. p ≡ windowed source reach.now aggregates.now) }
-{
-    match both_copies(reach, aggregates) {
-        Ok((reach, aggregates)) => Plan::window(alloc, source, reach, aggregates),
-        Err(Memory) => {
-            let_go(source);
-            Err(Memory)
-        }
-    }
-}
-
-pub(crate) fn aggregate_of(
-    alloc: Global,
-    source: Plan,
-    aggregates: &List<Aggregate>,
-    dimensions: &List<u32>,
-) -> Result<Plan, Memory>
-    ensures { IfOk result (λ p. p ≡ aggregated source aggregates.now dimensions.now) }
-{
-    match both_copies(aggregates, dimensions) {
-        Ok((aggregates, dimensions)) => Plan::aggregate(alloc, source, aggregates, dimensions),
-        Err(Memory) => {
-            let_go(source);
-            Err(Memory)
-        }
-    }
-}
 
 fn between_of(alloc: Global, source: Plan, area: &Bounds) -> Result<Plan, Memory>
     ensures { IfOk result (λ p. p ≡ between source area.now) }

@@ -1,24 +1,19 @@
 //! Plans rewritten: boxes go down, and nothing is computed that is dropped at once.
-ghost use Rattle.std.specs.Prelude.{◌≡◌, if◌then◌else◌, None, length, IfOk};
+ghost use Rattle.std.specs.Prelude.{◌≡◌, true, None, length, IfOk};
 ghost use Rattle.std.specs.Option.{option_copied};
+ghost use Rattle.logical_plan.specs.Arity.{binary_query, unary_query};
 ghost use Rattle.logical_plan.specs.PlanSchema.{schema_of};
 ghost use Rattle.logical_plan.specs.Typing.{IsTyped};
-ghost use Rattle.logical_plan.specs.Query.{Query, between, filtered, projected};
+ghost use Rattle.logical_plan.specs.Query.{Query, applied, between, filtered, projected};
 ghost use Rattle.plan_rewrite.specs.Inner.Pending.{pending, shown};
-ghost use Rattle.plan_rewrite.specs.Inner.Settling.{applied_for, over_one, over_two, settle};
-ghost use Rattle.plan_rewrite.specs.Inner.Shapes.{area_below, first_of, made_over, places_below};
-ghost use Rattle.plan_rewrite.specs.Inner.Trimmed.{names_none};
+ghost use Rattle.plan_rewrite.specs.Inner.Settling.{applied_for, keeps_above, settle};
 ghost use Rattle.plan_rewrite.specs.Same.{IsRewritten};
 
-use crate::nodes::{
-    aggregate_of, apply_over, cross_join_of, enclosed, filter_over, join_of, met, redimension_of,
-    regrid_of, slice_of, subarray_of, window_of,
-};
+use crate::nodes::{apply_over, enclosed, filter_over, met};
 use crate::places::{names_none, picked};
-use crate::shapes::{Shape, shape_of};
 use cell_values::{Bounds, List, Memory, Schema};
 use expr_nulls::TypedExpr;
-use logical_plan::{Applied, Plan, PlanNode, let_go};
+use logical_plan::{Applied, BinaryNode, Plan, PlanShape, UnaryNode, let_go};
 use plan_schemas::schema_of;
 use std::alloc::Global;
 
@@ -38,65 +33,6 @@ fn count_attributes(alloc: Global, plan: &Plan) -> Result<u32, Memory>
     ensures { IfOk result (λ count. count ≡ length (schema_of plan.now).attributes) }
 {
     count_of(&schema_of(alloc, plan)?)
-}
-
-/// The last operator of a plan over another source.
-fn over_one(alloc: Global, plan: &Plan, source: Plan) -> Result<Plan, Memory>
-    ensures { IfOk result (λ p. p ≡ over_one plan.now source) }
-{
-    match &plan.node {
-        PlanNode::Subarray(_, area) => subarray_of(alloc, source, area),
-        PlanNode::Slice(_, fixed) => slice_of(alloc, source, fixed),
-        PlanNode::Redimension(_, schema, aggregates) => {
-            redimension_of(alloc, source, schema, aggregates)
-        }
-        PlanNode::Regrid(_, sizes, aggregates) => regrid_of(alloc, source, sizes, aggregates),
-        PlanNode::Window(_, reach, aggregates) => window_of(alloc, source, reach, aggregates),
-        PlanNode::Aggregate(_, aggregates, groups) => {
-            aggregate_of(alloc, source, aggregates, groups)
-        }
-        PlanNode::Build(..)
-        | PlanNode::Literal(..)
-        | PlanNode::Scan(_)
-        | PlanNode::Filter(..)
-        | PlanNode::Apply(..)
-        | PlanNode::Project(..)
-        | PlanNode::Between(..)
-        | PlanNode::Join(..)
-        | PlanNode::CrossJoin(..) => {
-            let_go(source);
-            plan.copy()
-        }
-    }
-}
-
-/// The last operator of a plan over two other sources.
-fn over_two(alloc: Global, plan: &Plan, left: Plan, right: Plan) -> Result<Plan, Memory>
-    ensures { IfOk result (λ p. p ≡ over_two plan.now left right) }
-{
-    match &plan.node {
-        PlanNode::Join(_, _, schema) => join_of(alloc, left, right, schema),
-        PlanNode::CrossJoin(_, _, pairs, schema) => {
-            cross_join_of(alloc, left, right, pairs, schema)
-        }
-        PlanNode::Build(..)
-        | PlanNode::Literal(..)
-        | PlanNode::Scan(_)
-        | PlanNode::Filter(..)
-        | PlanNode::Apply(..)
-        | PlanNode::Project(..)
-        | PlanNode::Between(..)
-        | PlanNode::Subarray(..)
-        | PlanNode::Slice(..)
-        | PlanNode::Redimension(..)
-        | PlanNode::Regrid(..)
-        | PlanNode::Window(..)
-        | PlanNode::Aggregate(..) => {
-            let_go(left);
-            let_go(right);
-            plan.copy()
-        }
-    }
 }
 
 /// A plan that was made, with a box and a project on it.
@@ -129,53 +65,7 @@ fn filter_settled(
     }
 }
 
-/// A project, if it goes below an apply, the first of whose attributes has the place `first`. It does where it names none of them.
-fn below_apply(first: u32, places: Option<&List<u32>>) -> Option<&List<u32>>
-    ensures { let places = option_copied places.entry in option_copied result ≡ (if names_none first places then places else None) }
-{
-    if names_none(first, places) {
-        places
-    } else {
-        None
-    }
-}
-
-/// Of a box and a project what goes below the last operator of a plan. Before them the place of the first attribute that an apply
-/// computes.
-fn below<'a>(
-    alloc: Global,
-    plan: &Plan,
-    area: Option<&'a Bounds>,
-    places: Option<&'a List<u32>>,
-) -> Result<(u32, Option<&'a Bounds>, Option<&'a List<u32>>), Memory>
-    ensures first { IfOk result (λ all. all.0 ≡ first_of plan.now) }
-    ensures area { IfOk result (λ all. option_copied all.1 ≡ area_below (option_copied area.entry) plan.now) }
-    ensures places { IfOk result (λ all. option_copied all.2 ≡ places_below (option_copied places.entry) plan.now) }
-{
-    match &plan.node {
-        PlanNode::Filter(..) => Ok((0, area, None)),
-        PlanNode::Apply(source, _) => match count_attributes(alloc, source) {
-            Ok(first) => Ok((first, area, below_apply(first, places))),
-            Err(Memory) => Err(Memory),
-        },
-        PlanNode::Build(..)
-        | PlanNode::Literal(..)
-        | PlanNode::Scan(_)
-        | PlanNode::Project(..)
-        | PlanNode::Between(..)
-        | PlanNode::Subarray(..)
-        | PlanNode::Slice(..)
-        | PlanNode::Join(..)
-        | PlanNode::CrossJoin(..)
-        | PlanNode::Redimension(..)
-        | PlanNode::Regrid(..)
-        | PlanNode::Window(..)
-        | PlanNode::Aggregate(..) => Ok((0, None, None)),
-    }
-}
-
-/// An apply over a source that was settled, with what a project on it leaves of it. Nothing is left of it where the project went below
-/// it.
+/// An apply over a source that was settled, with what a project on it leaves of it.
 fn apply_settled(
     alloc: Global,
     settled: Result<Plan, Memory>,
@@ -183,85 +73,39 @@ fn apply_settled(
     first: u32,
     places: Option<&List<u32>>,
 ) -> Result<Plan, Memory>
-    ensures { let places = option_copied places.entry in
-        (q : Query) → IfOk settled (λ p. p ≡ q) → IfOk result (λ p. p ≡ (if names_none first places then q else applied_for first values.now places q)) }
-{
-    if names_none(first, places) {
-        settled
-    } else {
-        match settled {
-            Ok(source) => apply_over(alloc, source, values, first, places),
-            Err(Memory) => Err(Memory),
-        }
-    }
-}
-
-/// The last operator of a plan over another source that was settled.
-fn one_settled(alloc: Global, plan: &Plan, settled: Result<Plan, Memory>) -> Result<Plan, Memory>
-    ensures { (q : Query) → IfOk settled (λ p. p ≡ q) → IfOk result (λ p. p ≡ over_one plan.now q) }
+    ensures { (q : Query) → IfOk settled (λ p. p ≡ q) → IfOk result (λ p. p ≡ applied_for first values.now (option_copied places.entry) q) }
 {
     match settled {
-        Ok(source) => over_one(alloc, plan, source),
+        Ok(source) => apply_over(alloc, source, values, first, places),
         Err(Memory) => Err(Memory),
     }
 }
 
-/// The last operator of a plan over another source that was settled, with the box and the project that did not go below it.
-fn over_settled(
+/// An operator over a source that was settled.
+fn one_settled(
     alloc: Global,
-    plan: &Plan,
+    node: UnaryNode<'_>,
     settled: Result<Plan, Memory>,
-    first: u32,
-    area: Option<&Bounds>,
-    places: Option<&List<u32>>,
 ) -> Result<Plan, Memory>
-    ensures { let made = made_over (option_copied area.entry) (option_copied places.entry) plan.now in
-        (q : Query) → first ≡ first_of plan.now → IfOk settled (λ p. p ≡ q) → IfOk result (λ p. p ≡ made q) }
+    ensures { (q : Query) → IfOk settled (λ p. p ≡ q) → IfOk result (λ p. p ≡ unary_query node.entry q) }
 {
-    match &plan.node {
-        PlanNode::Filter(_, test) => filter_settled(alloc, settled, test, places),
-        PlanNode::Apply(_, values) => apply_settled(alloc, settled, values, first, places),
-        PlanNode::Build(..)
-        | PlanNode::Literal(..)
-        | PlanNode::Scan(_)
-        | PlanNode::Project(..)
-        | PlanNode::Between(..)
-        | PlanNode::Subarray(..)
-        | PlanNode::Slice(..)
-        | PlanNode::Join(..)
-        | PlanNode::CrossJoin(..)
-        | PlanNode::Redimension(..)
-        | PlanNode::Regrid(..)
-        | PlanNode::Window(..)
-        | PlanNode::Aggregate(..) => {
-            enclose_made(alloc, one_settled(alloc, plan, settled), area, places)
-        }
+    match settled {
+        Ok(source) => node.over(alloc, source),
+        Err(Memory) => Err(Memory),
     }
 }
 
-/// A plan without sources, with a box and a project on it.
-fn leaf_settled(
-    alloc: Global,
-    plan: &Plan,
-    area: Option<&Bounds>,
-    places: Option<&List<u32>>,
-) -> Result<Plan, Memory>
-    ensures { IfOk result (λ p. p ≡ pending (option_copied area.entry) (option_copied places.entry) plan.now) }
-{
-    enclose_made(alloc, plan.copy(), area, places)
-}
-
-/// The last operator of a plan over two other sources that were settled.
+/// An operator over two sources that were settled.
 fn two_settled(
     alloc: Global,
-    plan: &Plan,
+    node: BinaryNode<'_>,
     left: Result<Plan, Memory>,
     right: Result<Plan, Memory>,
 ) -> Result<Plan, Memory>
-    ensures { (a b : Query) → IfOk left (λ p. p ≡ a) → IfOk right (λ p. p ≡ b) → IfOk result (λ p. p ≡ over_two plan.now a b) }
+    ensures { (a b : Query) → IfOk left (λ p. p ≡ a) → IfOk right (λ p. p ≡ b) → IfOk result (λ p. p ≡ binary_query node.entry a b) }
 {
     match (left, right) {
-        (Ok(left), Ok(right)) => over_two(alloc, plan, left, right),
+        (Ok(left), Ok(right)) => node.over(alloc, left, right),
         (Ok(settled), Err(Memory)) | (Err(Memory), Ok(settled)) => {
             let_go(settled);
             Err(Memory)
@@ -280,12 +124,86 @@ fn settle(
 ) -> Result<Plan, Memory>
     ensures { IfOk result (λ p. p ≡ settle (option_copied area.entry) (option_copied places.entry) plan.now) }
 {
-    match shape_of(plan) {
-        Shape::Leaf => leaf_settled(alloc, plan, area, places),
-        Shape::Project(source, own) => settle_project(alloc, source, own, area, places),
-        Shape::Between(source, own) => settle_between(alloc, source, own, area, places),
-        Shape::One(source) => settle_over(alloc, plan, source, area, places),
-        Shape::Two(left, right) => settle_two(alloc, plan, left, right, area, places),
+    match plan.shape() {
+        PlanShape::Leaf(_) => enclose_made(alloc, plan.copy(), area, places),
+        PlanShape::Unary(source, node) => settle_one(alloc, source, node, area, places),
+        PlanShape::Binary(left, right, node) => {
+            settle_two(alloc, left, right, node, area, places)
+        }
+    }
+}
+
+/// An operator over one source, with a box and a project that are to be put on it.
+#[cycle(settle)]
+fn settle_one(
+    alloc: Global,
+    source: &Plan,
+    node: UnaryNode<'_>,
+    area: Option<&Bounds>,
+    places: Option<&List<u32>>,
+) -> Result<Plan, Memory>
+    ensures { IfOk result (λ p. p ≡ settle (option_copied area.entry) (option_copied places.entry) (unary_query node.entry source.now)) }
+{
+    match node {
+        UnaryNode::Filter(test) => settle_filter(alloc, source, test, area, places),
+        UnaryNode::Apply(values) => settle_apply(alloc, source, values, area, places),
+        UnaryNode::Project(own) => settle_project(alloc, source, own, area, places),
+        UnaryNode::Between(own) => settle_between(alloc, source, own, area, places),
+        UnaryNode::Subarray(_)
+        | UnaryNode::Slice(_)
+        | UnaryNode::Redimension(..)
+        | UnaryNode::Regrid(..)
+        | UnaryNode::Window(..)
+        | UnaryNode::Aggregate(..)
+        | UnaryNode::Sort(..)
+        | UnaryNode::Rank(..)
+        | UnaryNode::Cumulate(..)
+        | UnaryNode::Transpose
+        | UnaryNode::Reverse
+        | UnaryNode::Unpack(_)
+        | UnaryNode::Xgrid(_) => settle_under(alloc, source, node, area, places),
+    }
+}
+
+/// A box goes below a filter.
+#[cycle(settle)]
+fn settle_filter(
+    alloc: Global,
+    source: &Plan,
+    test: &TypedExpr,
+    area: Option<&Bounds>,
+    places: Option<&List<u32>>,
+) -> Result<Plan, Memory>
+    ensures { IfOk result (λ p. p ≡ settle (option_copied area.entry) (option_copied places.entry) (filtered source.now test.now)) }
+{
+    filter_settled(alloc, settle(alloc, source, area, None), test, places)
+}
+
+/// A box goes below an apply, and so does a project that names none of its attributes; nothing is then left of it.
+#[cycle(settle)]
+fn settle_apply(
+    alloc: Global,
+    source: &Plan,
+    values: &List<Applied>,
+    area: Option<&Bounds>,
+    places: Option<&List<u32>>,
+) -> Result<Plan, Memory>
+    ensures { IfOk result (λ p. p ≡ settle (option_copied area.entry) (option_copied places.entry) (applied source.now values.now)) }
+{
+    match count_attributes(alloc, source) {
+        Ok(first) => {
+            if names_none(first, places) {
+                return settle(alloc, source, area, places);
+            }
+            apply_settled(
+                alloc,
+                settle(alloc, source, area, None),
+                values,
+                first,
+                places,
+            )
+        }
+        Err(Memory) => Err(Memory),
     }
 }
 
@@ -323,45 +241,38 @@ fn settle_between(
     settle(alloc, source, Some(&both), places)
 }
 
-/// An operator over one source, and what of a box and a project does not go below it.
+/// A box and a project stay on an operator below which neither goes.
 #[cycle(settle)]
-fn settle_over(
+fn settle_under(
     alloc: Global,
-    plan: &Plan,
     source: &Plan,
+    node: UnaryNode<'_>,
     area: Option<&Bounds>,
     places: Option<&List<u32>>,
 ) -> Result<Plan, Memory>
-    ensures { let area = option_copied area.entry in
-        let places = option_copied places.entry in
-        let settled = settle (area_below area plan.now) (places_below places plan.now) source.now in
-        IfOk result (λ p. p ≡ made_over area places plan.now settled) }
+    requires { keeps_above node ≡ true }
+    ensures { IfOk result (λ p. p ≡ settle (option_copied area.entry) (option_copied places.entry) (unary_query node.entry source.now)) }
 {
-    match below(alloc, plan, area, places) {
-        Ok((first, lower_area, lower_places)) => {
-            let settled = settle(alloc, source, lower_area, lower_places);
-            over_settled(alloc, plan, settled, first, area, places)
-        }
-        Err(Memory) => Err(Memory),
-    }
+    let settled = settle(alloc, source, None, None);
+    enclose_made(alloc, one_settled(alloc, node, settled), area, places)
 }
 
 /// A box and a project stay on an operator over two sources.
 #[cycle(settle)]
 fn settle_two(
     alloc: Global,
-    plan: &Plan,
     left: &Plan,
     right: &Plan,
+    node: BinaryNode<'_>,
     area: Option<&Bounds>,
     places: Option<&List<u32>>,
 ) -> Result<Plan, Memory>
-    ensures { let made = over_two plan.now (settle None None left.now) (settle None None right.now) in
-        IfOk result (λ p. p ≡ pending (option_copied area.entry) (option_copied places.entry) made) }
+    ensures { let whole = binary_query node.entry left.now right.now in
+        IfOk result (λ p. p ≡ settle (option_copied area.entry) (option_copied places.entry) whole) }
 {
     let left = settle(alloc, left, None, None);
     let right = settle(alloc, right, None, None);
-    enclose_made(alloc, two_settled(alloc, plan, left, right), area, places)
+    enclose_made(alloc, two_settled(alloc, node, left, right), area, places)
 }
 
 /// A settled plan in place of a typed one: of the same leaves in the same order and the same wanted chunks, and of the same

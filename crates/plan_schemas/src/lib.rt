@@ -3,6 +3,7 @@
 
 mod attributes;
 mod dimensions;
+mod extents;
 mod places;
 mod schema;
 

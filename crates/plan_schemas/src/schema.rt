@@ -3,10 +3,15 @@ ghost use Rattle.std.specs.Prelude.{◌≡◌, IfOk};
 ghost use Rattle.logical_plan.specs.Meaning.{Database, meaning};
 ghost use Rattle.logical_plan.specs.PlanSchema.{apply_schema, project_schema, subarray_schema, slice_schema};
 ghost use Rattle.logical_plan.specs.PlanSchema.{regrid_schema, window_schema, aggregate_schema, schema_of as query_schema};
+ghost use Rattle.logical_plan.specs.PlanSchema.{rank_schema};
+ghost use Rattle.logical_plan.specs.ShapeSchemas.{concat_schema, merge_schema, transpose_schema, xgrid_schema};
 ghost use Rattle.plan_schemas.specs.Inner.Origins.{HasOrigin, schema_over};
 
-use crate::attributes::{attributes_of_aggregates, derived_attribute};
+use crate::attributes::{
+    attributes_of_aggregates, derived_attribute, either_attributes, with_rank,
+};
 use crate::dimensions::{dimensions_of_groups, free_dimensions, push_blocks, push_parts};
+use crate::extents::{lengthened, push_backwards, push_enlarged};
 use crate::places::at_places;
 use cell_values::{Bounds, List, Memory, Schema};
 use logical_plan::{Aggregate, Applied, Fixed, Plan, PlanNode};
@@ -102,12 +107,75 @@ fn groups(
     })
 }
 
+fn ranked(source: Schema, place: u32) -> Result<Schema, Memory>
+    ensures { IfOk result (λ schema. schema ≡ rank_schema place source) }
+{
+    let attributes = with_rank(&source.attributes, place)?;
+    let (_, dimensions) = source.into_parts();
+    Ok(Schema {
+        attributes,
+        dimensions,
+    })
+}
+
+fn transposed(source: Schema) -> Result<Schema, Memory>
+    ensures { IfOk result (λ schema. schema ≡ transpose_schema source) }
+{
+    let mut dimensions = source.dimensions.another();
+    push_backwards(&mut dimensions, source.dimensions.as_slice())?;
+    let (attributes, _) = source.into_parts();
+    Ok(Schema {
+        attributes,
+        dimensions,
+    })
+}
+
+fn xgridded(source: Schema, sizes: &List<u64>) -> Result<Schema, Memory>
+    ensures { IfOk result (λ schema. schema ≡ xgrid_schema sizes.now source) }
+{
+    let mut dimensions = source.dimensions.another();
+    push_enlarged(
+        &mut dimensions,
+        source.dimensions.as_slice(),
+        sizes.as_slice(),
+    )?;
+    let (attributes, _) = source.into_parts();
+    Ok(Schema {
+        attributes,
+        dimensions,
+    })
+}
+
+fn merged(left: Schema, right: &Schema) -> Result<Schema, Memory>
+    ensures { IfOk result (λ schema. schema ≡ merge_schema left right.now) }
+{
+    let attributes = either_attributes(&left.attributes, &right.attributes)?;
+    let (_, dimensions) = left.into_parts();
+    Ok(Schema {
+        attributes,
+        dimensions,
+    })
+}
+
+fn concatenated(left: &Schema, right: &Schema) -> Result<Schema, Memory>
+    ensures { IfOk result (λ schema. schema ≡ concat_schema left.now right.now) }
+{
+    Ok(Schema {
+        attributes: either_attributes(&left.attributes, &right.attributes)?,
+        dimensions: lengthened(&left.dimensions, &right.dimensions)?,
+    })
+}
+
 /// Where the schema of a plan comes from.
 enum Origin<'a> {
     /// It stands in the plan.
     Own(&'a Schema),
     /// Its last operator makes it of the schema of this source.
     Source(&'a Plan),
+    /// These two are merged.
+    Merged(&'a Plan, &'a Plan),
+    /// The second of these two follows the first.
+    Concatenated(&'a Plan, &'a Plan),
 }
 
 fn origin_of(plan: &Plan) -> Origin<'_>
@@ -129,6 +197,15 @@ fn origin_of(plan: &Plan) -> Origin<'_>
         PlanNode::Regrid(source, _, _) => Origin::Source(source),
         PlanNode::Window(source, _, _) => Origin::Source(source),
         PlanNode::Aggregate(source, _, _) => Origin::Source(source),
+        PlanNode::Sort(_, _, schema) => Origin::Own(schema),
+        PlanNode::Rank(source, _, _) => Origin::Source(source),
+        PlanNode::Cumulate(source, _, _) => Origin::Source(source),
+        PlanNode::Transpose(source) => Origin::Source(source),
+        PlanNode::Reverse(source) => Origin::Source(source),
+        PlanNode::Unpack(_, schema) => Origin::Own(schema),
+        PlanNode::Xgrid(source, _) => Origin::Source(source),
+        PlanNode::Merge(left, right) => Origin::Merged(left, right),
+        PlanNode::Concat(left, right) => Origin::Concatenated(left, right),
     }
 }
 
@@ -144,6 +221,10 @@ fn schema_over(alloc: Global, plan: &Plan, source: Schema) -> Result<Schema, Mem
         PlanNode::Regrid(_, sizes, aggregates) => regrid(source, sizes, aggregates),
         PlanNode::Window(_, _, aggregates) => window(source, aggregates),
         PlanNode::Aggregate(_, aggregates, places) => groups(alloc, source, aggregates, places),
+        PlanNode::Rank(_, place, _) => ranked(source, *place),
+        PlanNode::Cumulate(_, aggregates, _) => window(source, aggregates),
+        PlanNode::Transpose(_) => transposed(source),
+        PlanNode::Xgrid(_, sizes) => xgridded(source, sizes),
         PlanNode::Build(..)
         | PlanNode::Literal(..)
         | PlanNode::Scan(_)
@@ -151,7 +232,12 @@ fn schema_over(alloc: Global, plan: &Plan, source: Schema) -> Result<Schema, Mem
         | PlanNode::Between(..)
         | PlanNode::Join(..)
         | PlanNode::CrossJoin(..)
-        | PlanNode::Redimension(..) => Ok(source),
+        | PlanNode::Redimension(..)
+        | PlanNode::Sort(..)
+        | PlanNode::Reverse(_)
+        | PlanNode::Unpack(..)
+        | PlanNode::Merge(..)
+        | PlanNode::Concat(..) => Ok(source),
     }
 }
 
@@ -164,10 +250,18 @@ fn schema_within(alloc: Global, plan: &Plan) -> Result<Schema, Memory>
             Ok(schema) => schema_over(alloc, plan, schema),
             Err(Memory) => Err(Memory),
         },
+        Origin::Merged(left, right) => {
+            let left = schema_within(alloc, left)?;
+            merged(left, &schema_within(alloc, right)?)
+        }
+        Origin::Concatenated(left, right) => {
+            let left = schema_within(alloc, left)?;
+            concatenated(&left, &schema_within(alloc, right)?)
+        }
     }
 }
 
-/// The schema of the array that the plan means. Joins and redimension carry theirs.
+/// The schema of the array that the plan means. Joins, redimension, sort and unpack carry theirs.
 pub fn schema_of(alloc: Global, plan: &Plan) -> Result<Schema, Memory>
     ensures value { IfOk result (λ schema. schema ≡ query_schema plan.now) }
     ensures meaning { IfOk result (λ schema. (db : Database) → (meaning db plan.now).schema ≡ schema) }

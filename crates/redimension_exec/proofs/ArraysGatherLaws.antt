@@ -148,20 +148,3 @@ module _ (source target : Schema) (gs : List Aggregate) (rows : List Row) (are :
   told_are (Ok (Ok groups)) (Ok (Err other)) land cells few tell = tt
   told_are (Ok (Err broken)) (Ok (Ok told)) land cells few tell = absurd tell
   told_are (Err memory) (Ok some) land cells few tell = absurd tell
-
--- ---- the array
-
-pub of_cores : (array : ChunkedArray) (source : Schema) (rows : List Row) → source ≡ array.schema → rows ≡ cores_of array → HaveCells array.schema array.margins.items array.chunks → AreRowsOf source rows
-of_cores array source rows s c h =
-    subst (λ (z : Schema). AreRowsOf z rows) (sym s) (subst (AreRowsOf array.schema) (sym c) (cores_are_rows array.schema array.margins.items array.chunks h))
-
--- what an array becomes that is not broken, from the rows of its cores
-pub redimensioned : (source target : Schema) (aggs : List Aggregate) (array : ChunkedArray) (rows : List Row) (made : Result (List Row) Broken) → 1 ≤ length aggs
-    → array.broken ≡ None → source ≡ array.schema → rows ≡ cores_of array
-    → made ≡ gathered_rows (map (origin_of source) target.dimensions) (bounds_of target.dimensions) target.attributes aggs rows
-    → and_then (redimension_rows array.schema target aggs) (unless_broken array.broken (cores_of array)) ≡ if_whole (fit_rows target.attributes) made
-redimensioned source target [] array rows made some whole same are is = absurd (omega (arith, some))
-redimensioned source target (g ∷ gs) array rows made some whole same are is =
-    ap (λ (o : Option Broken). and_then (redimension_rows array.schema target (g ∷ gs)) (unless_broken o (cores_of array))) whole
-    ∙ ap (λ (s : Schema). redimension_rows s target (g ∷ gs) (cores_of array)) (sym same)
-    ∙ ap (λ (z : List Row). redimension_rows source target (g ∷ gs) z) (sym are) ∙ ap (if_whole (fit_rows target.attributes)) (sym is)

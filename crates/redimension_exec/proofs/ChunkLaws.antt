@@ -304,17 +304,17 @@ module _ (source : Schema) (margins : List ℕ) (n : ℕ) (chunks front back : L
   rows_apart : AreApart (rows_of front) (rows_of back)
   rows_apart =
       cores_apart source margins front back are.places.valid (subst (AllByRecursion (HasPlaces source margins)) (sym f) (all_take (HasPlaces source margins) n chunks are.places.all))
-      (subst (AllByRecursion (HasPlaces source margins)) (sym b) (all_drop (HasPlaces source margins) n chunks are.places.all)) (subst (λ (cs : List Chunk). NumbersRise (numbers cs)) (both_sides n chunks front back f b) are.rise)
+      (subst (AllByRecursion (HasPlaces source margins)) (sym b) (all_drop (HasPlaces source margins) n chunks are.places.all)) (subst (λ (cs : List Chunk). NumbersRise (numbers cs)) (both_sides n chunks front back f b) are.places.rising)
 
   pub rows_sum : length (rows_of chunks) ≡ length (rows_of front) + length (rows_of back)
   rows_sum =
       ap length put_of ∙ length-reordered (put_all-reordered (rows_of front) (rows_of back) (IsRising-core_rows source.dimensions margins front) rows_apart) ∙ length-append (rows_of front) (rows_of back)
 
-  pub front_chunks : 0 < n → n < length chunks → AreBands source margins front
-  front_chunks some less = let sum = rows_sum in front_of source margins n chunks front are some less (omega (arith, sum)) f
+  pub front_chunks : AreBands source margins front
+  front_chunks = let sum = rows_sum in front_of source margins n chunks front are (omega (arith, sum)) f
 
-  pub back_chunks : n < length chunks → AreBands source margins back
-  back_chunks less = let sum = rows_sum in back_of source margins n chunks back are less (omega (arith, sum)) b
+  pub back_chunks : AreBands source margins back
+  back_chunks = let sum = rows_sum in back_of source margins n chunks back are (omega (arith, sum)) b
 
   pub both_fit : (left right : Groups) → cells_in left.groups ≤ length (rows_of front) → cells_in right.groups ≤ length (rows_of back) → cells_in left.groups + cells_in right.groups ≤ length (rows_of chunks)
   both_fit left right one other = let sum = rows_sum in omega (arith, sum, one, other)

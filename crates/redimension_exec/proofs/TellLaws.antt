@@ -328,10 +328,13 @@ module _ (target : Schema) (chunks : BTreeMap (ArrayVec ℕ) Chunk) (can : CanTe
 
   pub places_told : (margins : List ℕ) → margins ≡ none → (told : List Chunk) → AllZip (IsToldOf target margins) (values chunks) told → HavePlaces target margins told
   places_told margins m told h =
+      let are = told_are_parts told (subst (λ (ms : List ℕ). AllZip (IsToldOf target ms) (values chunks) told) m h) in
       subst (λ (ms : List ℕ). HavePlaces target ms told) (sym m) (record {
         valid = can.rows_of.valid;
         each = each_none target.dimensions;
         places = places_none target can.rows_of.valid;
+        rising = are.in_order;
+        sized = are.sized;
         all = told_each (values chunks) told (can_tell_all none refl) (subst (λ (ms : List ℕ). AllZip (IsToldOf target ms) (values chunks) told) m h);
       })
 

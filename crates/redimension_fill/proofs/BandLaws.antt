@@ -1,14 +1,14 @@
 -- Chunks whose rows are found band by band, cut in two.
-use Rattle.std.proofs.Common.{◌≡◌, ℕ, ◌<◌, ◌≤◌, List, ◌++◌, length, take, drop, sym, ap, ◌∙◌, subst, arith}
-use Rattle.std.proofs.lemmas.List.{length-append, length-drop, length-take}
+use Rattle.std.proofs.Common.{◌≡◌, ℕ, ◌≤◌, List, ◌++◌, length, take, drop, sym, ap, ◌∙◌, subst, arith}
+use Rattle.std.proofs.lemmas.List.{length-append}
 use Rattle.cell_values.specs.declared.schema.Dimension.{Dimension}
 use Rattle.cell_values.specs.declared.schema.Schema.{Schema}
 use Rattle.cell_values.specs.Schemas.{IsValid}
 use Rattle.array_geom.specs.declared.chunk.Chunk.{Chunk}
-use Rattle.array_geom.specs.Link.{NumbersRise, core_rows, numbers}
+use Rattle.array_geom.specs.Link.{core_rows}
 use Rattle.array_geom.proofs.NearLemmas.{valid_placed}
 use Rattle.chunk_cells.specs.Whole.{CoresRise}
-use Rattle.area_cells.proofs.CutLaws.{cores_drop, cores_take, rise_drop, rise_take}
+use Rattle.area_cells.proofs.CutLaws.{cores_drop, cores_take}
 use Rattle.area_cells.proofs.PieceLaws.{places_drop, places_take}
 use Rattle.redimension_fill.specs.Inner.Bands.{AreBands}
 
@@ -19,40 +19,34 @@ pub cut_rows : (dims : List Dimension) (margins : List ℕ) (n : ℕ) (chunks fr
     → core_rows dims margins chunks ≡ core_rows dims margins front ++ core_rows dims margins back
 cut_rows dims margins n chunks front back e f b = e ∙ (λ i. core_rows dims margins (sym f i) ++ core_rows dims margins (sym b i))
 
-pub front_of : (source : Schema) (margins : List ℕ) (n : ℕ) (chunks front : List Chunk) → AreBands source margins chunks → 0 < n → n < length chunks
+pub front_of : (source : Schema) (margins : List ℕ) (n : ℕ) (chunks front : List Chunk) → AreBands source margins chunks
     → length (core_rows source.dimensions margins front) ≤ length (core_rows source.dimensions margins chunks) → front ≡ take n chunks → AreBands source margins front
-front_of source margins n chunks front are some less few is =
+front_of source margins n chunks front are few is =
     let counted = are.counted in
-    let long = ap length is ∙ length-take n chunks in
     record {
-      some = omega (arith, long, some, less);
       places = places_take source margins n chunks front is are.places;
       cores = subst (CoresRise source.dimensions margins) (sym is) (cores_take source.dimensions margins n chunks are.cores);
-      rise = subst (λ (cs : List Chunk). NumbersRise (numbers cs)) (sym is) (rise_take n chunks are.rise);
       counted = omega (arith, few, counted);
     }
 
-pub back_of : (source : Schema) (margins : List ℕ) (n : ℕ) (chunks back : List Chunk) → AreBands source margins chunks → n < length chunks
+pub back_of : (source : Schema) (margins : List ℕ) (n : ℕ) (chunks back : List Chunk) → AreBands source margins chunks
     → length (core_rows source.dimensions margins back) ≤ length (core_rows source.dimensions margins chunks) → back ≡ drop n chunks → AreBands source margins back
-back_of source margins n chunks back are less few is =
+back_of source margins n chunks back are few is =
     let counted = are.counted in
-    let long = ap length is ∙ length-drop n chunks in
     record {
-      some = omega (arith, long, less);
       places = places_drop source margins n chunks back is are.places;
       cores = subst (CoresRise source.dimensions margins) (sym is) (cores_drop source.dimensions margins n chunks are.cores);
-      rise = subst (λ (cs : List Chunk). NumbersRise (numbers cs)) (sym is) (rise_drop n chunks are.rise);
       counted = omega (arith, few, counted);
     }
 
-pub front_bands : (source : Schema) (margins : List ℕ) (n : ℕ) (chunks front back : List Chunk) → AreBands source margins chunks → 0 < n → n < length chunks
+pub front_bands : (source : Schema) (margins : List ℕ) (n : ℕ) (chunks front back : List Chunk) → AreBands source margins chunks
     → core_rows source.dimensions margins chunks ≡ core_rows source.dimensions margins front ++ core_rows source.dimensions margins back → front ≡ take n chunks → AreBands source margins front
-front_bands source margins n chunks front back are some less split is =
+front_bands source margins n chunks front back are split is =
     let sum = ap length split ∙ length-append (core_rows source.dimensions margins front) (core_rows source.dimensions margins back) in
-    front_of source margins n chunks front are some less (omega (arith, sum)) is
+    front_of source margins n chunks front are (omega (arith, sum)) is
 
-pub back_bands : (source : Schema) (margins : List ℕ) (n : ℕ) (chunks front back : List Chunk) → AreBands source margins chunks → n < length chunks
+pub back_bands : (source : Schema) (margins : List ℕ) (n : ℕ) (chunks front back : List Chunk) → AreBands source margins chunks
     → core_rows source.dimensions margins chunks ≡ core_rows source.dimensions margins front ++ core_rows source.dimensions margins back → back ≡ drop n chunks → AreBands source margins back
-back_bands source margins n chunks front back are less split is =
+back_bands source margins n chunks front back are split is =
     let sum = ap length split ∙ length-append (core_rows source.dimensions margins front) (core_rows source.dimensions margins back) in
-    back_of source margins n chunks back are less (omega (arith, sum)) is
+    back_of source margins n chunks back are (omega (arith, sum)) is

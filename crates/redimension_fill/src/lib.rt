@@ -6,5 +6,5 @@ mod moving;
 mod places;
 
 pub use filling::no_margins;
-pub use moving::{filled_from_rows, filled_in_bands, has_bands};
+pub use moving::filled_in_bands;
 pub use places::{Place, bounds_of, first_numbers, places_of_attributes, places_of_dimensions};

@@ -1,9 +1,8 @@
 //! Rows moved into the chunks of a target band by band, so that the source's rows of one band are there at a time.
-ghost use Rattle.std.specs.Prelude.{◌≡◌, ℕ, ◌≤◌, ◌<◌, ◌^◌, List as Items, length, map, IsTrue, IfOk};
-ghost use Rattle.cell_values.specs.declared.schema.Dimension.{Dimension};
+ghost use Rattle.std.specs.Prelude.{◌≡◌, ◌≤◌, length, map, IfOk};
 ghost use Rattle.cell_values.specs.Schemas.{IsValid};
 ghost use Rattle.array_rows.specs.Boxes.{bounds_of};
-ghost use Rattle.array_geom.specs.Link.{NumbersRise, core_rows, numbers};
+ghost use Rattle.array_geom.specs.Link.{core_rows};
 ghost use Rattle.array_parts.specs.Cores.{cores_of};
 ghost use Rattle.logical_plan.specs.Redimension.{origin_of, value_origin};
 ghost use Rattle.redimension_fill.specs.Inner.Bands.{AreBands};
@@ -14,31 +13,10 @@ use crate::filling::Filled;
 use crate::places::{
     Place, Target, bounds_of, fill_rows, places_of_attributes, places_of_dimensions,
 };
-use area_cells::{are_few, are_rising, half_of_bands, rows_of_chunks};
+use area_cells::{half_of_bands, rows_of_chunks};
 use array_geom::{Chunk, ChunkedArray};
-use cell_values::{Bounds, Broken, ChunkAt, Coord, List, Margins, Memory, Row, Schema};
+use cell_values::{Bounds, Broken, ChunkAt, Coord, List, Margins, Memory, Schema};
 use std::collections::BTreeMap;
-
-/// Whether chunks rise and have cells that can be counted.
-fn are_bands(chunks: &[Chunk], dimensions: usize) -> bool
-    ensures rise { IsTrue result → NumbersRise (numbers chunks.now) }
-    ensures some { IsTrue result → 0 < length chunks.now }
-    ensures few { IsTrue result → (dims : Items Dimension) (margins : Items ℕ) → length (core_rows dims margins chunks.now) < 2 ^ 63 }
-{
-    if chunks.is_empty() {
-        return false;
-    }
-    are_rising(chunks, dimensions) && are_few(chunks)
-}
-
-/// Whether an array has bands: chunks whose numbers rise, as those of an array do, with cells that can be counted.
-pub fn has_bands(array: &ChunkedArray) -> bool
-    ensures rise { IsTrue result → NumbersRise (numbers array.now.chunks) }
-    ensures some { IsTrue result → 0 < length array.now.chunks }
-    ensures few { IsTrue result → (dims : Items Dimension) (margins : Items ℕ) → length (core_rows dims margins array.now.chunks) < 2 ^ 63 }
-{
-    are_bands(array.chunks.as_slice(), array.schema.dimensions.len())
-}
 
 /// Puts what the rows of the cores of chunks make into the target's chunks, or says which of the rows is the first that breaks it.
 fn fill_band(
@@ -166,21 +144,6 @@ fn filled_by(
     finished(filled, moved)
 }
 
-/// The same of rows.
-fn filled_with(
-    to: &Target<'_>,
-    rows: &List<Row>,
-) -> Result<Result<BTreeMap<ChunkAt, Chunk>, Broken>, Memory>
-    requires { IsTarget to.now.schema.now to.now.none.now.items to.now.bounds.now to.now.places.now }
-    ensures { IfOk result (HoldsAll to.now.schema.now (map origin to.now.places.now) to.now.bounds.now (map origin to.now.values.now) rows.now) }
-{
-    let mut counts = BTreeMap::new(rows.allocator());
-    let mut filled = Filled::new(rows.allocator());
-    let moved = fill_rows(to, &mut counts, &mut filled, rows);
-    drop(counts);
-    finished(filled, moved)
-}
-
 fn filled_from(
     array: &ChunkedArray,
     target: &Schema,
@@ -218,27 +181,4 @@ pub fn filled_in_bands(
     let filled = filled_from(&array, target, none);
     drop(array);
     filled
-}
-
-/// The same of rows.
-pub fn filled_from_rows(
-    source: &Schema,
-    target: &Schema,
-    none: &Margins,
-    rows: &List<Row>,
-) -> Result<Result<BTreeMap<ChunkAt, Chunk>, Broken>, Memory>
-    requires valid { IsValid target.now }
-    requires margins { none.now.items ≡ no_margins target.now.dimensions }
-    ensures { IfOk result (HoldsLanded source.now target.now rows.now) }
-{
-    let origins = origins_of(source, target)?;
-    let to = Target {
-        schema: target,
-        none,
-        bounds: &origins.bounds,
-        places: origins.places.as_slice(),
-        values: origins.values.as_slice(),
-    };
-    let filled = filled_with(&to, rows)?;
-    Ok(filled)
 }

@@ -38,15 +38,6 @@ abbrev pub HasKind : Style → Checked Query → Reply → Type 0
 HasKind style (Ok query) reply = IsRowsReply style query reply
 HasKind style (Err breach) reply = reply ≡ refused (Typing breach.span breach.kind)
 
-abbrev pub HasKindOver : SourceState → Style → Checked Query → Reply → Type 0
-HasKindOver source style (Ok query) reply = IsRowsOver source style query reply
-HasKindOver source style (Err breach) reply = reply ≡ refused (Typing breach.span breach.kind)
-
--- The reply to the tree of a query over a source: of this kind always, and in each database that the source tells the reply there.
-pub record IsQueryReply (style : Style) (names : Names) (source : SourceState) (tree : Term) (reply : Reply) : Type 0 where
-  pub kind : HasKindOver source style (query_of names.arrays tree) reply
-  pub told : (db : Database) → source.tells db → reply ≡ query_reply style names db tree
-
 -- a reply over a database is of that kind
 abbrev pub RepliesHaveKinds : Type 0
 RepliesHaveKinds = (style : Style) (names : Names) (db : Database) (tree : Term)

@@ -55,12 +55,6 @@ abbrev pub HasStatementKind : Style → Names → Checked Typed → Accepted →
 HasStatementKind style names (Ok typed) answer = HasTypedKind style names typed answer
 HasStatementKind style names (Err breach) answer = answer ≡ without_change (refused (Typing breach.span breach.kind))
 
--- What a tree of a text is answered over stored arrays of these names: of this kind always, and in each database that may stand
--- there the reply there.
-pub record IsStatementReply (style : Style) (names : Names) (stands : Database → Type 0) (text : List ℕ) (tree : Term) (answer : Accepted) : Type 0 where
-  pub kind : HasStatementKind style names (check_of tree text names) answer
-  pub told : (db : Database) → stands db → answer ≡ reply_to style db text tree
-
 -- what is answered over a database is of that kind
 abbrev pub RepliesHaveStatementKinds : Type 0
 RepliesHaveStatementKinds = (style : Style) (db : Database) (text : List ℕ) (tree : Term)

@@ -8,5 +8,5 @@ pub use answers::{Outcome, forms_are_said, outcome_of};
 pub use replies::{
     Reply, Style, accepted_reply, answer_query, change_lines, let_go_reply, list_reply,
     listed_arrays_stand, queries_have_their_replies, refuse, replies_have_kinds,
-    replies_have_statement_kinds, reply_to_query, show_reply, versions_reply,
+    replies_have_statement_kinds, show_reply, versions_reply,
 };

@@ -13,7 +13,7 @@ pub use laws::{
     replies_have_statement_kinds,
 };
 pub use listings::{accepted_reply, list_reply, show_reply, versions_reply};
-pub use queries::{answer_query, reply_to_query};
+pub use queries::answer_query;
 pub(crate) use replies::or_fault;
 pub use replies::{Reply, let_go_reply, refuse};
 pub use style::Style;

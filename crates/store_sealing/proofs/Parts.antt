@@ -1,5 +1,5 @@
 -- The parts of a store, with the ledger that preparing leaves.
-use Rattle.std.proofs.Common.{◌≡◌, ◌∙◌, ◌+◌, ◌≤◌, ℕ, Bool, true, false, ◌&&◌, List, [], ◌∷◌, length, map, Result, Ok, Err, refl, ap, sym, subst}
+use Rattle.std.proofs.Common.{◌≡◌, ◌∙◌, ◌+◌, ◌≤◌, ℕ, Bool, true, false, ◌&&◌, List, [], ◌∷◌, length, map, Result, Ok, Err, OnOk, refl, ap, sym, subst}
 use Rattle.std.proofs.lemmas.List.{length-reverse}
 use Rattle.afl_outside.specs.Disk.{Moment}
 use Rattle.chunk_map.specs.declared.directory.Directory.{Directory}
@@ -86,3 +86,8 @@ at_left moment n s k r l x left =
 -- what is said of two lists
 pub two_lists : {A B : Type 0} (xs xs' : List A) (ys ys' : List B) (P : List A → List B → Type 0) → xs' ≡ xs → ys' ≡ ys → P xs ys → P xs' ys'
 two_lists xs xs' ys ys' P a b p = subst (λ (x : List _). P x ys') (sym a) (subst (λ (y : List _). P xs y) (sym b) p)
+
+-- what holds anyway holds where a call succeeds
+pub when_ok : {T E : Type 0} (result : Result T E) (P : Type 0) → P → OnOk result P
+when_ok (Ok x) P p = p
+when_ok (Err e) P p = tt

@@ -6,6 +6,7 @@
 
 mod bells;
 mod commits;
+mod entries;
 mod seats;
 mod steps;
 mod turns;

@@ -1,15 +1,16 @@
 //! Threads that append to one log side by side.
 ghost use Rattle.std.specs.Prelude.{◌≡◌, length};
-ghost use Rattle.turn_lock.specs.Entries.{owner_of};
+ghost use Rattle.test_commits.specs.Entries.{owner_of};
 ghost use Rattle.turn_lock.specs.Owners.{ExtendsByOwn};
 ghost use Rattle.turn_lock.specs.Seats.{seat_count, IsSeatOf, IsIdle, AreIdleSeats, AreNewSeats};
 
+use crate::entries::{Entry, Log, append};
 use cell_values::{List, Memory};
 use std::sync::Wait;
 use std::thread;
 use std::thread::Threads;
 use test_kit::{Transcript, push_numbered, push_word};
-use turn_lock::{Entry, Log, TurnLock, TurnSeat, append};
+use turn_lock::{TurnLock, TurnSeat};
 
 /// What each of four seats appends, the numbers from 0 on, and how that is told.
 #[derive(Clone, Copy)]

@@ -10,7 +10,7 @@ use crate::told::push_typed;
 use crate::without_end;
 use afl_parser::parse;
 use afl_trees::{Tree, let_go_tree};
-use afl_types::{TypeFault, check, let_go_typed};
+use afl_types::{TypeFault, check};
 use cell_values::{MAX_STATEMENT, Memory, Span};
 use logical_plan::Names;
 use result_print::{Refusal, refusal_line};
@@ -37,7 +37,7 @@ fn push_checked(out: &mut Transcript, text: &[u8], tree: &Tree, names: &Names)
     match check(out.alloc(), tree, text, names) {
         Ok(typed) => {
             push_typed(out, &typed);
-            let_go_typed(typed);
+            drop(typed);
         }
         Err(TypeFault::Rule { span, kind }) => push_fault(out, span, kind),
         Err(TypeFault::Memory) => push_word(out, "no memory"),

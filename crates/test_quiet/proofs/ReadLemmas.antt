@@ -45,7 +45,7 @@ read_at schema at chunk s = subst (λ (k : ArrayVec ℕ). IsStored schema k chun
 pub alone_has_places : (schema copy : Schema) (margins : List ℕ) (chunk : Chunk) → copy ≡ schema → margins ≡ overlaps schema.dimensions → IsValid schema → IsRead schema chunk →
     HavePlaces copy margins (chunk ∷ [])
 alone_has_places schema copy margins chunk e m valid read =
-    subst (λ (z : Schema). HavePlaces z margins (chunk ∷ [])) (sym e) (have_places schema margins (chunk.at ∷ []) (chunk ∷ []) m valid (read, tt))
+    subst (λ (z : Schema). HavePlaces z margins (chunk ∷ [])) (sym e) (have_places schema margins (chunk.at ∷ []) (chunk ∷ []) m valid (tt, tt) (read, tt))
 
 pub if_some : {A : Type 0} (P Q : A → Type 0) (o : Option A) → ((x : A) → P x → Q x) → IfSome o P → IfSome o Q
 if_some P Q None f p = p

@@ -7,7 +7,7 @@ ghost use Rattle.test_quiet.specs.Offers.{IsOffer};
 use crate::answers::Answer;
 use crate::chunks::chunks_of;
 use crate::statements::statement;
-use afl_types::{Typed, let_go_typed};
+use afl_types::Typed;
 use array_geom::Changed;
 use logical_plan::Names;
 use plan_changes::{Change, let_go_change};
@@ -22,7 +22,7 @@ pub fn change_over(alloc: Global, text: &[u8], names: &Names) -> Result<Change, 
     match statement(alloc, text, names) {
         Ok(Typed::Change(change)) => Ok(change),
         Ok(other) => {
-            let_go_typed(other);
+            drop(other);
             Err(Answer::NoChange)
         }
         Err(answer) => Err(answer),

@@ -1,12 +1,12 @@
 //! A disk in memory that tells no bytes, and may pass from thread to thread.
 ghost use Rattle.std.specs.Io.{ReadsAtMost};
 
-use afl_outside::{Disk, Failed, PlainDisk};
+use afl_outside::{Disk, Failed, SureDisk};
 use cell_values::Bytes;
 
 /// A disk in memory that tells contracts no bytes.
 pub struct SilentDisk {
-    disk: PlainDisk,
+    disk: SureDisk,
     faults: u64,
 }
 
@@ -20,7 +20,7 @@ impl SilentDisk {
     /// A disk with these bytes.
     pub fn new(bytes: Bytes) -> SilentDisk {
         SilentDisk {
-            disk: PlainDisk::new(bytes),
+            disk: SureDisk::new(bytes),
             faults: 0,
         }
     }

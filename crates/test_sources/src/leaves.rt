@@ -6,20 +6,29 @@ ghost use Rattle.test_sources.specs.Example.{leaf};
 use crate::example::example_leaf;
 use crate::layout::Layout;
 use crate::show::{push_cause, push_chunks, push_faults};
-use cell_values::Memory;
-use chunk_source::{ChunkSource, read_leaf};
+use cell_values::{Bounds, Memory, coord_of};
+use chunk_source::{ChunkSource, read_part};
 use logical_plan::Leaf;
 use test_kit::Transcript;
 
 /// The number of a leaf in a plan.
 const NUMBER: u32 = 3;
 
+/// All places of the array.
+fn whole_area() -> Bounds {
+    Bounds {
+        lo: coord_of(&[0]),
+        hi: coord_of(&[3]),
+    }
+}
+
 /// Reads a leaf, and adds its chunks or why it could not be read, and how often the source has failed.
 fn push_leaf<S: ChunkSource>(out: &mut Transcript, source: &mut S, leaf: &Leaf)
     requires reads { Reads (S.state source.old) leaf.now }
     requires valid { IsValid leaf.now.schema }
 {
-    match read_leaf(source, NUMBER, leaf) {
+    let area = whole_area();
+    match read_part(out.alloc(), source, NUMBER, leaf, &area) {
         Ok(array) => {
             push_chunks(out, array.chunks.as_slice());
             drop(array);

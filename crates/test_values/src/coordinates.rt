@@ -3,7 +3,7 @@
 use crate::show::push_corners;
 use crate::words::front_of;
 use array_rows::is_in_box;
-use cell_values::{Bounds, Broken, Datum, FaultKind, Memory, Row, row_major, same_place};
+use cell_values::{Bounds, Broken, Datum, FaultKind, Memory, Row, row_major};
 use std::cmp::Ordering;
 use test_kit::{
     Transcript, cell_of, coord_in, fault_of, push_cell, push_coord, push_datum, push_word,
@@ -79,16 +79,6 @@ pub(crate) fn order_of(operands: &str) -> &'static str {
         Ordering::Less => "before",
         Ordering::Equal => "equal",
         Ordering::Greater => "behind",
-    }
-}
-
-/// Whether two coordinates are one place.
-pub(crate) fn sameness_of(operands: &str) -> &'static str {
-    let (one, other) = front_of(operands);
-    if same_place(&coord_in(one), &coord_in(other)) {
-        "the same"
-    } else {
-        "another"
     }
 }
 

@@ -7,7 +7,7 @@
 use crate::Table;
 use crate::aggregates::push_aggregate;
 use crate::calls::{push_one, push_two};
-use crate::coordinates::{order_of, push_bounds, push_broken, push_row, sameness_of, side_of};
+use crate::coordinates::{order_of, push_bounds, push_broken, push_row, side_of};
 use crate::lists::Lists;
 use crate::places::push_chunk_call;
 use crate::words::front_of;
@@ -48,7 +48,6 @@ fn push_code(out: &mut Transcript, number: &str) {
 fn push_worked(out: &mut Transcript, word: &str, operands: &str) {
     match word {
         "order" => push_word(out, order_of(operands)),
-        "same" => push_word(out, sameness_of(operands)),
         "box" => push_word(out, side_of(operands)),
         "-" => push_one(out, word, operands),
         "not" => push_one(out, word, operands),

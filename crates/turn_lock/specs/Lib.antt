@@ -1,5 +1,4 @@
 pub mod Closings
-pub mod Entries
 pub mod Inner
 pub mod Owners
 pub mod Rule

@@ -1,3 +1,8 @@
+pub mod SetLaws
+pub mod CentreLaws
+pub mod SpotLaws
+pub mod DenseLaws
+pub mod GridLaws
 pub mod ArraysWindowLaws
 pub mod ChunksWindowLaws
 pub mod FollowLaws

@@ -61,13 +61,13 @@ all_pushed area reach gs rows items i made e l h =
 -- ---- what windows reach
 
 -- numbers that stay in 64 bits with a window behind them
-abbrev AreHigh : List ℤ → Type 0
+abbrev pub AreHigh : List ℤ → Type 0
 AreHigh = AllByRecursion (λ h. h ≤ℤ pos (2 ^ 62 + 2 ^ 50))
 
 high_number : (d : Dimension) (k m : ℕ) → IsNear d → first_in d k ≤ℤ d.hi → d.chunk + 2 * m ≤ 2 ^ 48 → (last_in d k +ℤ pos m) ≤ℤ pos (2 ^ 62 + 2 ^ 50)
 high_number d k m near first small = let high = near.high in omega (arith, ints, high, first, small)
 
-highs_in_range : (dims : List Dimension) (margins : List ℕ) (k : ChunkNumber) → AreNear dims → has_core dims k ≡ true → AreMargins dims margins → AreHigh (frame dims margins k).hi.items
+pub highs_in_range : (dims : List Dimension) (margins : List ℕ) (k : ChunkNumber) → AreNear dims → has_core dims k ≡ true → AreMargins dims margins → AreHigh (frame dims margins k).hi.items
 highs_in_range [] margins k n e a = tt
 highs_in_range (d ∷ dims) margins [] n e a = tt
 highs_in_range (d ∷ dims) [] (k ∷ ks) n e a = tt
@@ -94,7 +94,7 @@ high_reached h x y after high short a b c =
     subst (λ (z : ℤ). y ≤ℤ z) (sym same) reach
 
 -- a window around a coordinate of a box lies in what the windows around its coordinates reach
-covers : (lo hi : List ℤ) (reach : List Reach) (c y : Coordinate) → AreLow lo → AreHigh hi → AreShort reach → is_between lo hi c ≡ true → is_inside (window reach c) y ≡ true → is_inside (reached reach (corners lo hi)) y ≡ true
+pub covers : (lo hi : List ℤ) (reach : List Reach) (c y : Coordinate) → AreLow lo → AreHigh hi → AreShort reach → is_between lo hi c ≡ true → is_inside (window reach c) y ≡ true → is_inside (reached reach (corners lo hi)) y ≡ true
 covers [] [] reach [] y a b s e f = f
 covers [] [] reach (x ∷ c) y a b s e f = absurd cc
 covers [] (h ∷ hi) reach c y a b s e f = absurd cc
@@ -113,13 +113,13 @@ covers (l ∷ lo) (h ∷ hi) (r ∷ reach) (x ∷ c) (y ∷ ys) a b s e f =
     (covers lo hi reach c ys a.1 b.1 s.1 t.others u.others)
 
 -- a coordinate lies in its own window
-own_window : (reach : List Reach) (c : Coordinate) → length reach ≡ length c → is_inside (window reach c) c ≡ true
+pub own_window : (reach : List Reach) (c : Coordinate) → length reach ≡ length c → is_inside (window reach c) c ≡ true
 own_window [] [] e = refl
 own_window [] (x ∷ c) e = absurd (omega (arith, e))
 own_window (r ∷ reach) [] e = absurd (omega (arith, e))
 own_window (r ∷ reach) (x ∷ c) e = side (x -ℤ pos r.before) (x +ℤ pos r.after) x (is_inside (window reach c) c) (omega (arith, ints)) (omega (arith, ints)) (own_window reach c (omega (arith, e)))
 
-as_long : (lo hi : List ℤ) (c : Coordinate) → is_between lo hi c ≡ true → length c ≡ length lo
+pub as_long : (lo hi : List ℤ) (c : Coordinate) → is_between lo hi c ≡ true → length c ≡ length lo
 as_long [] [] [] e = refl
 as_long [] [] (x ∷ c) e = absurd cc
 as_long [] (h ∷ hi) c e = absurd cc
@@ -127,7 +127,7 @@ as_long (l ∷ lo) [] c e = absurd cc
 as_long (l ∷ lo) (h ∷ hi) [] e = absurd cc
 as_long (l ∷ lo) (h ∷ hi) (x ∷ c) e = let t = and_parts (int_le l x && int_le x h) (is_between lo hi c) e in ap suc (as_long lo hi c t.1)
 
-low_length : (dims : List Dimension) (margins : List ℕ) (k : ChunkNumber) → has_core dims k ≡ true → length margins ≡ length dims → length (frame_low dims margins k) ≡ length dims
+pub low_length : (dims : List Dimension) (margins : List ℕ) (k : ChunkNumber) → has_core dims k ≡ true → length margins ≡ length dims → length (frame_low dims margins k) ≡ length dims
 low_length [] margins [] e n = refl
 low_length [] margins (k ∷ ks) e n = absurd cc
 low_length (d ∷ dims) margins [] e n = absurd cc
@@ -175,13 +175,14 @@ pub low_within : (area : Bounds) (rows some : List Row) → some ≡ within area
 low_within area rows some e low = subst HaveLowPlaces (sym e) (all_kept (λ row. AreLow row.at.items) (λ row. is_inside area row.at.items) rows low)
 
 -- the parts of all windows, one for each chunk whose core has a cell
-pub whole_parts : (source target : Schema) (old margins : List ℕ) (reach : List Reach) (gs : List Aggregate) (chunks parts : List Chunk) → target.dimensions ≡ source.dimensions → HaveCells source old chunks → numbers parts ≡ numbers chunks → NumbersRise (numbers chunks)
-    → AllByRecursion (λ k. length k ≡ length source.dimensions) (numbers chunks) → AllByRecursion (IsPart target.dimensions margins (window_rows reach gs (core_rows source.dimensions old chunks))) parts
+pub whole_parts : (source target : Schema) (old margins : List ℕ) (reach : List Reach) (gs : List Aggregate) (chunks parts : List Chunk) → target.dimensions ≡ source.dimensions → HaveCells source old chunks → numbers parts ≡ numbers chunks
+    → AllByRecursion (IsPart target.dimensions margins (window_rows reach gs (core_rows source.dimensions old chunks))) parts
     → AreParts target.dimensions margins (window_rows reach gs (core_rows source.dimensions old chunks)) parts
-whole_parts source target old margins reach gs chunks parts same cells e rise sized each =
+whole_parts source target old margins reach gs chunks parts same cells e each =
     let rows = core_rows source.dimensions old chunks in
     subst (λ (ds : List Dimension). AreParts ds margins (window_rows reach gs rows) parts) (sym same)
-    (changed_parts source.dimensions margins (window_cell reach gs rows) rows chunks parts e rise sized (λ k l h. core_listed source.dimensions old chunks k (valid_placed source cells.placed.valid).near sized l h)
+    (changed_parts source.dimensions margins (window_cell reach gs rows) rows chunks parts e cells.placed.rising cells.placed.sized
+    (λ k l h. core_listed source.dimensions old chunks k (valid_placed source cells.placed.valid).near cells.placed.sized l h)
     (subst (λ (ds : List Dimension). AllByRecursion (IsPart ds margins (window_rows reach gs rows)) parts) same each))
 
 pub same_frame : (source target : Schema) (old margins : List ℕ) (chunk : Chunk) → target.dimensions ≡ source.dimensions → HasFrames target margins → HasPlaces source old chunk → HasFrame target margins chunk.at.items
@@ -190,9 +191,9 @@ same_frame source target old margins chunk same frames placed =
 
 -- each number is that of a chunk whose windows can be made
 pub can_have_windows : (array : ChunkedArray) (reach : List Reach) (gs : List Aggregate) (target : Schema) (margins : List ℕ) (ks : List (ArrayVec ℕ)) → ks ≡ map (λ chunk. chunk.at) array.chunks → HasFrames target margins
-    → HaveCells array.schema array.margins.items array.chunks → NumbersRise (numbers array.chunks) → IsTrue (are_windows_of array.schema reach) → IsTrue (are_aggregates_of array.schema.attributes gs) → target.dimensions ≡ array.schema.dimensions
-    → AllByRecursion (λ number. HaveCells array.schema array.margins.items array.chunks × NumbersRise (numbers array.chunks) × IsTrue (are_windows_of array.schema reach) × IsTrue (are_aggregates_of array.schema.attributes gs) × (target.dimensions ≡ array.schema.dimensions) × HasFrame target margins number.items) ks
-can_have_windows array reach gs target margins ks e frames cells rises reached typed same =
-    let can : ArrayVec ℕ → Type 0 = λ number. HaveCells array.schema array.margins.items array.chunks × NumbersRise (numbers array.chunks) × IsTrue (are_windows_of array.schema reach) × IsTrue (are_aggregates_of array.schema.attributes gs) × (target.dimensions ≡ array.schema.dimensions) × HasFrame target margins number.items in
+    → HaveCells array.schema array.margins.items array.chunks → IsTrue (are_windows_of array.schema reach) → IsTrue (are_aggregates_of array.schema.attributes gs) → target.dimensions ≡ array.schema.dimensions
+    → AllByRecursion (λ number. HaveCells array.schema array.margins.items array.chunks × IsTrue (are_windows_of array.schema reach) × IsTrue (are_aggregates_of array.schema.attributes gs) × (target.dimensions ≡ array.schema.dimensions) × HasFrame target margins number.items) ks
+can_have_windows array reach gs target margins ks e frames cells reached typed same =
+    let can : ArrayVec ℕ → Type 0 = λ number. HaveCells array.schema array.margins.items array.chunks × IsTrue (are_windows_of array.schema reach) × IsTrue (are_aggregates_of array.schema.attributes gs) × (target.dimensions ≡ array.schema.dimensions) × HasFrame target margins number.items in
     subst (λ (z : List (ArrayVec ℕ)). AllByRecursion can z) (sym e)
-    (each_number can (HasPlaces array.schema array.margins.items) (λ chunk placed. (cells, rises, reached, typed, same, same_frame array.schema target array.margins.items margins chunk same frames placed)) array.chunks cells.placed.all)
+    (each_number can (HasPlaces array.schema array.margins.items) (λ chunk placed. (cells, reached, typed, same, same_frame array.schema target array.margins.items margins chunk same frames placed)) array.chunks cells.placed.all)

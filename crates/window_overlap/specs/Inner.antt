@@ -1,3 +1,4 @@
+pub mod Dense
 pub mod Reached
 pub mod Runs
 pub mod Skips

@@ -6,6 +6,5 @@ mod skips;
 mod states;
 mod windows;
 
-pub(crate) use corners::reach_of;
+pub(crate) use corners::{reach_of, window_of};
 pub(crate) use windows::windows_inside;
-pub use windows::windows_of_rows;

@@ -3,6 +3,6 @@
 
 mod arrays;
 mod chunks;
+mod dense;
 
 pub use arrays::window;
-pub use chunks::windows_of_rows;

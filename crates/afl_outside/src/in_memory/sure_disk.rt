@@ -6,16 +6,16 @@ ghost use Rattle.afl_outside.specs.Lemmas.ImageLaws.{now_counts, only_images_now
 ghost use Rattle.afl_outside.specs.Inner.Records.{unwritten_disk, content_of, sure_disk_moment, SureCalls};
 
 use crate::in_memory::device_call::DeviceCall;
-use crate::in_memory::disk_record::DiskRecord;
+use crate::in_memory::ghost_record::GhostRecord;
 use crate::{Disk, Failed};
 use cell_values::{Bytes, Memory};
 use std::marker::Model;
 
-/// A disk in memory that fails only where no memory is found; its reads never fail. It keeps a record of its writes and
-/// syncs, from which the images that a stop might have left are told, so its memory grows with each write.
+/// A disk in memory that fails only where no memory is found; its reads and syncs never fail. Contracts see its writes and
+/// syncs, and so the images that a stop might have left; at run time it keeps its bytes alone.
 #[derive(Drop)]
 pub struct SureDisk {
-    kept: DiskRecord,
+    kept: GhostRecord,
     wants: u64,
 }
 
@@ -33,7 +33,7 @@ impl SureDisk {
         ensures { result ≡ unwritten_disk content }
     {
         SureDisk {
-            kept: DiskRecord::new(content),
+            kept: GhostRecord::new(content),
             wants: 0,
         }
     }
@@ -79,16 +79,12 @@ impl Disk for SureDisk {
     }
 
     fn sync(&mut self) -> Result<(), Failed>
+        ensures succeeds { IsOk result }
         ensures exact { SureCalls (DeviceCall.Sync true) self.old self.new result }
         ensures wants_later { self.old.wants ≤ self.new.wants }
     {
-        match self.kept.note(DeviceCall::Sync { done: true }) {
-            Ok(()) => Ok(()),
-            Err(Memory) => {
-                self.wants = self.wants.saturating_add(1);
-                Err(Failed)
-            }
-        }
+        self.kept.sync();
+        Ok(())
     }
 
     fn wants(&self) -> u64 {

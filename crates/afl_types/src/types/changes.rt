@@ -7,5 +7,5 @@ mod put;
 
 pub use arrays::{array_call, cut_call, list_call};
 pub use create::create_array;
-pub use put::{Target, insert_call, store_call};
+pub use put::Target;
 pub(crate) use put::{Putting, put_call};

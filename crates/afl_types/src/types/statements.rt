@@ -3,4 +3,4 @@
 mod checking;
 mod statement;
 
-pub use checking::{Typed, check, let_go_typed};
+pub use checking::{Typed, check};

@@ -7,8 +7,8 @@ ghost use Rattle.array_rows.specs.Inner.CellsIn.{cells_in, value_in};
 
 use crate::columns::Rows;
 use crate::columns::forms::{
-    Form, cell_in, copy_form, count_in, fault_at, list_of, numbers_in, push_form, push_number_form,
-    push_row_form, push_values_form,
+    Form, cell_in, copy_form, count_in, fault_at, list_of, numbers_in, push_both_form, push_form,
+    push_number_form, push_row_form, push_values_form,
 };
 use cell_values::{Cell, Copies, Datum, FaultKind, List, Memory};
 use std::alloc::Global;
@@ -45,16 +45,6 @@ impl Cells {
         Cells {
             alloc,
             form: Form::Even(Rows::new(alloc)),
-        }
-    }
-
-    /// These cells, as they are.
-    pub fn from_list(cells: List<Cell>) -> Cells
-        ensures { result ≡ cells }
-    {
-        Cells {
-            alloc: cells.allocator(),
-            form: Form::Mixed(cells),
         }
     }
 
@@ -117,6 +107,15 @@ impl Cells {
         ensures { OnOk result (self.new ≡ self.old ++ Full (slice_index_or from.now k []) ∷ []) }
     {
         push_row_form(self.alloc, &mut self.form, from, k)
+    }
+
+    /// Adds a row of values and behind it those of another as a cell.
+    pub fn push_both(&mut self, left: &Rows, i: usize, right: &Rows, j: usize) -> Result<(), Memory>
+        requires left { i < length left.now }
+        requires right { j < length right.now }
+        ensures { OnOk result (self.new ≡ self.old ++ Full (slice_index_or left.now i [] ++ slice_index_or right.now j []) ∷ []) }
+    {
+        push_both_form(self.alloc, &mut self.form, left, i, right, j)
     }
 
     /// The cell at a place.

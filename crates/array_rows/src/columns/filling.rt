@@ -1,5 +1,5 @@
 //! Columns to which a value each is added.
-ghost use Rattle.std.specs.Prelude.{◌≡◌, ◌<◌, [], ◌∷◌, ◌++◌, length, slice_index_or, slice_set, OnOk, IfOk, IfSome};
+ghost use Rattle.std.specs.Prelude.{◌≡◌, ◌+◌, ◌<◌, [], ◌∷◌, ◌++◌, length, slice_index_or, slice_set, OnOk, IfOk, IfSome};
 ghost use Rattle.cell_values.specs.declared.datum.Datum.TheVariants.{Null, Int};
 ghost use Rattle.array_rows.specs.RowsIn.{row_at, pushed, AreLong};
 ghost use Rattle.array_rows.specs.Seen.{seen};
@@ -42,6 +42,26 @@ pub(crate) fn push_place(columns: &mut Vec<Column>, from: &[Column], k: usize) -
 {
     for i in 0..from.len() {
         push_at(columns, i, from[i].value(k)?)?;
+    }
+    Ok(())
+}
+
+/// Adds a place of some columns, and behind it one of others.
+pub(crate) fn push_places(
+    columns: &mut Vec<Column>,
+    left: &[Column],
+    i: usize,
+    right: &[Column],
+    j: usize,
+) -> Result<(), Memory>
+    requires { length columns.old.items ≡ length left.now + length right.now }
+    ensures { OnOk result (columns.new.items ≡ pushed columns.old.items (row_at i left.now ++ row_at j right.now)) }
+{
+    for k in 0..left.len() {
+        push_at(columns, k, left[k].value(i)?)?;
+    }
+    for k in 0..right.len() {
+        push_at(columns, left.len() + k, right[k].value(j)?)?;
     }
     Ok(())
 }

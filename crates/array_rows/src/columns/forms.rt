@@ -75,6 +75,24 @@ fn takes_row(form: &mut Form, from: &Rows, k: usize) -> Result<bool, Memory>
     }
 }
 
+/// Whether two rows of others, one behind the other, were taken as a row.
+fn takes_both(
+    form: &mut Form,
+    left: &Rows,
+    i: usize,
+    right: &Rows,
+    j: usize,
+) -> Result<bool, Memory>
+    requires left { i < length left.now }
+    requires right { j < length right.now }
+    ensures { IfOk result (λ taken. cells_in form.new ≡ cond taken (cells_in form.old ++ Full (slice_index_or left.now i [] ++ slice_index_or right.now j []) ∷ []) (cells_in form.old)) }
+{
+    match form {
+        Form::Even(rows) => rows.push_both(left, i, right, j),
+        Form::Mixed(_) => Ok(false),
+    }
+}
+
 /// Adds a cell at the end of cells one by one, which they are from then on.
 fn push_mixed(alloc: Global, form: &mut Form, cell: Cell) -> Result<(), Memory>
     ensures { OnOk result (cells_in form.new ≡ cells_in form.old ++ cell ∷ []) }
@@ -158,6 +176,35 @@ pub(crate) fn push_row_form(
         return Ok(());
     }
     push_mixed(alloc, form, Cell::Full(from.row(k)?))
+}
+
+/// The values of two rows, one behind the other, as a cell.
+fn cell_of_both(left: &Rows, i: usize, right: &Rows, j: usize) -> Result<Cell, Memory>
+    requires left { i < length left.now }
+    requires right { j < length right.now }
+    ensures { IfOk result (λ cell. cell ≡ Full (slice_index_or left.now i [] ++ slice_index_or right.now j [])) }
+{
+    let mut values = left.row(i)?;
+    values.append(right.row(j)?)?;
+    Ok(Cell::Full(values))
+}
+
+pub(crate) fn push_both_form(
+    alloc: Global,
+    form: &mut Form,
+    left: &Rows,
+    i: usize,
+    right: &Rows,
+    j: usize,
+) -> Result<(), Memory>
+    requires left { i < length left.now }
+    requires right { j < length right.now }
+    ensures { OnOk result (cells_in form.new ≡ cells_in form.old ++ Full (slice_index_or left.now i [] ++ slice_index_or right.now j []) ∷ []) }
+{
+    if takes_both(form, left, i, right, j)? {
+        return Ok(());
+    }
+    push_mixed(alloc, form, cell_of_both(left, i, right, j)?)
 }
 
 pub(crate) fn cell_in(form: &Form, k: usize) -> Result<Cell, Memory>

@@ -7,7 +7,8 @@ ghost use Rattle.array_rows.specs.Seen.{seen};
 
 use crate::columns::faults::fault_in;
 use crate::columns::filling::{
-    copy_columns, empty_columns, number_in, push_each, push_first, push_place, small_in, values_at,
+    copy_columns, empty_columns, number_in, push_each, push_first, push_place, push_places,
+    small_in, values_at,
 };
 use crate::columns::{Column, Small};
 use cell_values::{Datum, FaultKind, List, Memory};
@@ -163,6 +164,46 @@ impl Rows {
             return Err(Memory);
         };
         match push_place(&mut self.columns, from.columns.as_slice(), k) {
+            Ok(()) => {
+                self.count = next;
+                Ok(true)
+            }
+            Err(error) => {
+                self.columns.clear();
+                self.count = 0;
+                Err(error)
+            }
+        }
+    }
+
+    /// Adds a row of some and behind it one of others as a row, as `push` does.
+    pub fn push_both(
+        &mut self,
+        left: &Rows,
+        i: usize,
+        right: &Rows,
+        j: usize,
+    ) -> Result<bool, Memory>
+        requires left { i < length left.now }
+        requires right { j < length right.now }
+        ensures { IfOk result (λ taken. self.new ≡ cond taken (self.old ++ (slice_index_or left.now i [] ++ slice_index_or right.now j []) ∷ []) self.old) }
+    {
+        let Some(width) = left.columns.len().checked_add(right.columns.len()) else {
+            return Err(Memory);
+        };
+        if !fit(&mut self.columns, self.count, width)? {
+            return Ok(false);
+        }
+        let Some(next) = self.count.checked_add(1) else {
+            return Err(Memory);
+        };
+        match push_places(
+            &mut self.columns,
+            left.columns.as_slice(),
+            i,
+            right.columns.as_slice(),
+            j,
+        ) {
             Ok(()) => {
                 self.count = next;
                 Ok(true)

@@ -6,13 +6,15 @@ use Rattle.cell_values.specs.declared.datum.Datum.{Datum}
 use Rattle.cell_values.specs.declared.datum.Row.{Row}
 use Rattle.cell_values.specs.declared.schema.Schema.{Schema}
 use Rattle.cell_values.specs.Cells.{AreOfKinds}
+use Rattle.cell_values.specs.Schemas.{IsValid}
 use Rattle.array_rows.specs.Arrays.{AreRowsOf}
 use Rattle.array_rows.specs.Boxes.{bounds_of}
 use Rattle.array_geom.specs.declared.chunk.Chunk.{Chunk}
 use Rattle.array_geom.specs.declared.chunk.ChunkedArray.{ChunkedArray}
 use Rattle.array_geom.specs.Geometry.{overlaps}
-use Rattle.array_geom.specs.Link.{HoldsRows, core_rows}
-use Rattle.array_parts.specs.Cores.{HaveCells, cores_of, meant_by_cores}
+use Rattle.array_geom.specs.Link.{HoldsRows, chunk_rows, core_rows}
+use Rattle.array_parts.specs.Cores.{cores_of, meant_by_cores}
+use Rattle.array_parts.specs.Placed.{HasPlaces}
 use Rattle.logical_plan.specs.CellOps.{fit_rows}
 use Rattle.logical_plan.specs.Faults.{fault_of, if_whole}
 use Rattle.logical_plan.specs.Typing.{AreSound}
@@ -43,9 +45,11 @@ pub record CanBeStored (array : ChunkedArray) : Type 0 where
   pub holds : HoldsRows array.schema array (cores_of array)
   pub sound : AreSound array.schema (cores_of array)
 
--- chunks as they are stored, whether or not the margins of one agree with the cores of others
+-- chunks as they are stored, in any order, whether or not the margins of one agree with the cores of others
 pub record AreStoredChunks (schema : Schema) (chunks : List Chunk) : Type 0 where
-  pub cells : HaveCells schema (overlaps schema.dimensions) chunks
+  pub valid : IsValid schema
+  pub placed : AllByRecursion (HasPlaces schema (overlaps schema.dimensions)) chunks
+  pub rows_of : AllByRecursion (λ chunk. AreRowsOf schema (chunk_rows schema.dimensions (overlaps schema.dimensions) chunk)) chunks
   pub sound : AllByRecursion (HasSoundCells schema) chunks
 
 -- the rows of their cores

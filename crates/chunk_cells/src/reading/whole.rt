@@ -95,7 +95,7 @@ fn gather(
 
 /// The rows of all cores.
 fn gathered(array: ChunkedArray) -> Result<List<Row>, Memory>
-    requires { HavePlaces array.schema array.margins.items array.chunks }
+    requires { AllByRecursion (HasPlaces array.schema array.margins.items) array.chunks }
     ensures { CoresRise array.schema.dimensions array.margins.items array.chunks
         → IfOk result (λ rows. rows ≡ core_rows array.schema.dimensions array.margins.items array.chunks) }
 {
@@ -110,9 +110,10 @@ fn gathered(array: ChunkedArray) -> Result<List<Row>, Memory>
     gather(&schema, &margins, &mut chunks, first.as_slice())
 }
 
-/// The rows of an array's cores, put together, whose cells are moved. The margins need not agree with them.
+/// The rows of an array's cores, put together, whose cells are moved. The margins need not agree with them, and the chunks may stand
+/// in any order.
 pub fn into_core_rows(array: ChunkedArray) -> Result<List<Row>, Memory>
-    requires places { HavePlaces array.schema array.margins.items array.chunks }
+    requires places { AllByRecursion (HasPlaces array.schema array.margins.items) array.chunks }
     requires rise { CoresRise array.schema.dimensions array.margins.items array.chunks }
     ensures { IfOk result (λ rows. rows ≡ core_rows array.schema.dimensions array.margins.items array.chunks) }
 {

@@ -1,5 +1,5 @@
 -- The plans on whose arrays the last operator of a plan works, and what it makes of them.
-use Rattle.std.specs.Prelude.{◌≡◌, Bool, true, false, List, [], ◌∷◌}
+use Rattle.std.specs.Prelude.{◌≡◌, List, [], ◌∷◌}
 use Rattle.std.specs.List.{AllByRecursion, AllZip}
 use Rattle.array_parts.specs.Cores.{HasCells}
 use Rattle.array_geom.specs.declared.chunk.ChunkedArray.{ChunkedArray}
@@ -10,11 +10,14 @@ use Rattle.logical_plan.specs.BoxOps.{slice_rows, subarray_rows}
 use Rattle.logical_plan.specs.CellOps.{apply_rows, filter_rows, project_rows}
 use Rattle.logical_plan.specs.Groups.{aggregate_rows, regrid_rows, window_rows}
 use Rattle.logical_plan.specs.Joins.{cross_rows, join_rows}
-use Rattle.logical_plan.specs.Meaning.{made, made_of_two, redimensioned_from, whole}
-use Rattle.logical_plan.specs.PlanSchema.{aggregate_schema, apply_schema, project_schema, regrid_schema, schema_of, slice_schema}
+use Rattle.logical_plan.specs.Meaning.{made, made_of_two, redimensioned_from, sorted_from, whole}
+use Rattle.logical_plan.specs.Ordered.{cumulate_rows, rank_rows}
+use Rattle.logical_plan.specs.PlanSchema.{aggregate_schema, apply_schema, cumulate_schema, project_schema, rank_schema, regrid_schema, schema_of, slice_schema}
 use Rattle.logical_plan.specs.PlanSchema.{subarray_schema, window_schema}
 use Rattle.logical_plan.specs.Query.{Query, built, listed, scanned, filtered, applied, projected, between, subarray}
 use Rattle.logical_plan.specs.Query.{sliced, joined, crossed, redimensioned, regridded, windowed, aggregated}
+use Rattle.logical_plan.specs.Query.{sorted, ranked, cumulated, transposed, reversed, unpacked, xgridded, merged, concatenated}
+use Rattle.logical_plan.specs.ShapeMeant.{concat_meant, merge_meant, reverse_meant, transpose_meant, unpack_meant, xgrid_meant}
 use Rattle.logical_plan.specs.Typing.{IsTyped}
 
 -- from left to right
@@ -34,14 +37,15 @@ sources (redimensioned source schema gs) = source ∷ []
 sources (regridded source sizes gs) = source ∷ []
 sources (windowed source reach gs) = source ∷ []
 sources (aggregated source gs places) = source ∷ []
-
--- the last operator of a plan makes a cell of several ones
-abbrev pub makes_groups : Query → Bool
-makes_groups (redimensioned source schema gs) = true
-makes_groups (regridded source sizes gs) = true
-makes_groups (windowed source reach gs) = true
-makes_groups (aggregated source gs places) = true
-makes_groups query = false
+sources (sorted source keys schema) = source ∷ []
+sources (ranked source x dims) = source ∷ []
+sources (cumulated source gs n) = source ∷ []
+sources (transposed source) = source ∷ []
+sources (reversed source) = source ∷ []
+sources (unpacked source schema) = source ∷ []
+sources (xgridded source sizes) = source ∷ []
+sources (merged left right) = left ∷ right ∷ []
+sources (concatenated left right) = left ∷ right ∷ []
 
 -- what the last operator of a plan makes of what its sources mean
 abbrev pub operated : Query → List Meant → Meant
@@ -57,6 +61,15 @@ operated (redimensioned source schema gs) (m ∷ []) = redimensioned_from schema
 operated (regridded source sizes gs) (m ∷ []) = made (regrid_schema sizes gs) (λ s. regrid_rows (bounds_of s.dimensions).lo.items sizes gs) m
 operated (windowed source reach gs) (m ∷ []) = made (window_schema gs) (λ s. window_rows reach gs) m
 operated (aggregated source gs places) (m ∷ []) = made (aggregate_schema gs places) (λ s. aggregate_rows places gs) m
+operated (sorted source keys schema) (m ∷ []) = sorted_from keys schema m
+operated (ranked source x dims) (m ∷ []) = made (rank_schema x) (λ s. rank_rows x dims) m
+operated (cumulated source gs n) (m ∷ []) = made (cumulate_schema gs) (λ s. cumulate_rows n gs) m
+operated (transposed source) (m ∷ []) = transpose_meant m
+operated (reversed source) (m ∷ []) = reverse_meant m
+operated (unpacked source schema) (m ∷ []) = unpack_meant schema m
+operated (xgridded source sizes) (m ∷ []) = xgrid_meant sizes m
+operated (merged left right) (l ∷ r ∷ []) = merge_meant l r
+operated (concatenated left right) (l ∷ r ∷ []) = concat_meant l r
 operated query meants = whole (schema_of query) []
 
 -- each array is of its plan's schema, or stands for its meaning

@@ -1,20 +1,19 @@
 //! The arrays of plans, operator by operator.
-ghost use Rattle.std.specs.Prelude.{◌≡◌, ◌+◌, ◌≤◌, [], ◌∷◌, length, drop, IfOk, OnOk, OnErr};
+ghost use Rattle.std.specs.Prelude.{◌≡◌, ◌+◌, ◌≤◌, length, drop, IfOk, OnOk, OnErr};
 ghost use Rattle.chunk_source.specs.Source.{AsksFront, Keeps};
 ghost use Rattle.chunk_source.specs.Faults.{Answers};
+ghost use Rattle.logical_plan.specs.Arity.{binary_query, unary_query};
 ghost use Rattle.logical_plan.specs.Leaves.{leaves};
 ghost use Rattle.chunk_exec.specs.Computed.{CanCompute, IsComputed, asked_in_boxes};
-ghost use Rattle.chunk_exec.specs.Inner.Operated.{sources};
 
 use crate::plans::leaf::given_array;
 use crate::plans::operators::{of_one, of_two};
-use crate::plans::sources::{Sources, sources_of};
 use afl_outside::Gate;
 use array_geom::ChunkedArray;
 use cell_values::Bounds;
 use chunk_source::{ChunkSource, ExecFault};
 use chunk_workers::Crew;
-use logical_plan::Plan;
+use logical_plan::{BinaryNode, Plan, PlanShape, UnaryNode};
 use std::alloc::Global;
 use std::thread::Threads;
 
@@ -38,10 +37,14 @@ pub(crate) fn compute<S: ChunkSource, R: Threads + Sync, G: Gate>(
     ensures cause { Answers (S.state source.old) (S.state source.new) result }
     ensures start { S.start source.new ≡ S.start source.old }
 {
-    match sources_of(plan) {
-        Sources::Given => given_array(alloc, plan, source, next, boxes),
-        Sources::One(from) => over_one(crew, alloc, plan, from, source, next, boxes),
-        Sources::Two(left, right) => over_two(crew, alloc, plan, left, right, source, next, boxes),
+    match plan.shape() {
+        PlanShape::Leaf(node) => given_array(alloc, plan, node, source, next, boxes),
+        PlanShape::Unary(from, node) => {
+            over_one(crew, alloc, plan, from, node, source, next, boxes)
+        }
+        PlanShape::Binary(left, right, node) => {
+            over_two(crew, alloc, plan, left, right, node, source, next, boxes)
+        }
     }
 }
 
@@ -52,12 +55,13 @@ fn over_one<S: ChunkSource, R: Threads + Sync, G: Gate>(
     alloc: Global,
     plan: &Plan,
     from: &Plan,
+    node: UnaryNode<'_>,
     source: &mut S,
     next: &mut u32,
     boxes: &[Bounds],
 ) -> Result<ChunkedArray, ExecFault>
     requires can { CanCompute (S.state source.old) plan.now }
-    requires from { from.now ∷ [] ≡ sources plan.now }
+    requires node { plan.now ≡ unary_query node from.now }
     requires enough { next.old + length (leaves plan.now) ≤ length boxes.now }
     ensures computed { IfOk result (IsComputed next.old (drop next.old boxes.now) (S.state source.old) (S.state source.new) plan.now) }
     ensures next { OnOk result (next.new ≡ next.old + length (leaves plan.now)) }
@@ -68,7 +72,7 @@ fn over_one<S: ChunkSource, R: Threads + Sync, G: Gate>(
     ensures start { S.start source.new ≡ S.start source.old }
 {
     let array = compute(crew, alloc, from, source, next, boxes)?;
-    Ok(of_one(crew, alloc, plan, array)?)
+    Ok(of_one(crew, alloc, plan, from, node, array)?)
 }
 
 /// The array of a plan of two sources.
@@ -79,12 +83,13 @@ fn over_two<S: ChunkSource, R: Threads + Sync, G: Gate>(
     plan: &Plan,
     left: &Plan,
     right: &Plan,
+    node: BinaryNode<'_>,
     source: &mut S,
     next: &mut u32,
     boxes: &[Bounds],
 ) -> Result<ChunkedArray, ExecFault>
     requires can { CanCompute (S.state source.old) plan.now }
-    requires both { left.now ∷ right.now ∷ [] ≡ sources plan.now }
+    requires node { plan.now ≡ binary_query node left.now right.now }
     requires enough { next.old + length (leaves plan.now) ≤ length boxes.now }
     ensures computed { IfOk result (IsComputed next.old (drop next.old boxes.now) (S.state source.old) (S.state source.new) plan.now) }
     ensures next { OnOk result (next.new ≡ next.old + length (leaves plan.now)) }
@@ -94,7 +99,7 @@ fn over_two<S: ChunkSource, R: Threads + Sync, G: Gate>(
     ensures cause { Answers (S.state source.old) (S.state source.new) result }
     ensures start { S.start source.new ≡ S.start source.old }
 {
-    let left = compute(crew, alloc, left, source, next, boxes)?;
-    let right = compute(crew, alloc, right, source, next, boxes)?;
-    Ok(of_two(crew, plan, left, right)?)
+    let a = compute(crew, alloc, left, source, next, boxes)?;
+    let b = compute(crew, alloc, right, source, next, boxes)?;
+    Ok(of_two(crew, plan, left, right, node, a, b)?)
 }

@@ -1,18 +1,18 @@
 //! The arrays of plans without sources: given in the plan, or stored.
-ghost use Rattle.std.specs.Prelude.{◌≡◌, ◌+◌, ◌<◌, ◌≤◌, [], length, drop, IfOk, OnOk, OnErr};
+ghost use Rattle.std.specs.Prelude.{◌≡◌, ◌+◌, ◌<◌, ◌≤◌, length, drop, IfOk, OnOk, OnErr};
 ghost use Rattle.cell_values.specs.Schemas.{IsValid};
 ghost use Rattle.chunk_source.specs.Source.{AsksFront, Keeps, Reads};
 ghost use Rattle.chunk_source.specs.Faults.{Answers};
+ghost use Rattle.logical_plan.specs.Arity.{leaf_query};
 ghost use Rattle.logical_plan.specs.Leaves.{leaves};
 ghost use Rattle.logical_plan.specs.Query.{scanned};
 ghost use Rattle.chunk_exec.specs.Computed.{CanCompute, IsComputed, asked_in_boxes};
-ghost use Rattle.chunk_exec.specs.Inner.Operated.{sources};
 
 use crate::plans::given::{build, literal};
 use array_geom::ChunkedArray;
 use cell_values::Bounds;
 use chunk_source::{ChunkSource, ExecFault, read_part};
-use logical_plan::{Leaf, Plan, PlanNode};
+use logical_plan::{Leaf, LeafNode, Plan};
 use std::alloc::Global;
 
 /// The array of the leaf that has the next number, read for its box. More leaves than a `u32` counts are as good as no memory.
@@ -49,12 +49,13 @@ fn next_leaf<S: ChunkSource>(
 pub(crate) fn given_array<S: ChunkSource>(
     alloc: Global,
     plan: &Plan,
+    node: LeafNode<'_>,
     source: &mut S,
     next: &mut u32,
     boxes: &[Bounds],
 ) -> Result<ChunkedArray, ExecFault>
     requires can { CanCompute (S.state source.old) plan.now }
-    requires given { sources plan.now ≡ [] }
+    requires node { plan.now ≡ leaf_query node }
     requires enough { next.old + length (leaves plan.now) ≤ length boxes.now }
     ensures computed { IfOk result (IsComputed next.old (drop next.old boxes.now) (S.state source.old) (S.state source.new) plan.now) }
     ensures next { OnOk result (next.new ≡ next.old + length (leaves plan.now)) }
@@ -64,10 +65,9 @@ pub(crate) fn given_array<S: ChunkSource>(
     ensures cause { Answers (S.state source.old) (S.state source.new) result }
     ensures start { S.start source.new ≡ S.start source.old }
 {
-    match &plan.node {
-        PlanNode::Build(schema, value) => Ok(build(alloc, schema, value)?),
-        PlanNode::Literal(schema, rows) => Ok(literal(schema, rows.as_slice())?),
-        PlanNode::Scan(leaf) => next_leaf(alloc, source, next, leaf, boxes),
-        _ => unreachable!(),
+    match node {
+        LeafNode::Build(schema, value) => Ok(build(alloc, schema, value)?),
+        LeafNode::Literal(schema, rows) => Ok(literal(schema, rows.as_slice())?),
+        LeafNode::Scan(leaf) => next_leaf(alloc, source, next, leaf, boxes),
     }
 }

@@ -3,5 +3,5 @@
 mod answers;
 mod faults;
 
-pub use answers::{PlanArray, PlanRows, array_of, rows_of};
+pub use answers::{PlanArray, PlanRows, array_of};
 pub use faults::first_fault;

@@ -1,14 +1,13 @@
-//! Arrays made of their rows, and arrays that could not be computed.
-ghost use Rattle.std.specs.Prelude.{◌≡◌, ◌≤◌, Ok as Good, Err as Bad, length, IfOk};
+//! The bounds of arrays, and arrays that could not be computed.
+ghost use Rattle.std.specs.Prelude.{◌≡◌, ◌≤◌, Err as Bad, length, IfOk};
 ghost use Rattle.cell_values.specs.Schemas.{IsValid};
-ghost use Rattle.array_rows.specs.Arrays.{AreRowsOf};
 ghost use Rattle.array_rows.specs.Boxes.{bounds_of};
 ghost use Rattle.array_geom.specs.Geometry.{overlaps};
 ghost use Rattle.array_geom.specs.Link.{Is};
 
 use array_geom::{ChunkedArray, margins_of};
-use cell_values::{Bounds, Broken, Coord, Dimension, List, Memory, Row, Schema};
-use chunk_cells::{assemble, broken_array};
+use cell_values::{Bounds, Broken, Coord, Dimension, Memory, Schema};
+use chunk_cells::broken_array;
 
 fn bounds_within(dims: &[Dimension]) -> Bounds
     requires { length dims.now ≤ 6 }
@@ -30,17 +29,6 @@ pub(crate) fn bounds(schema: &Schema) -> Bounds
     ensures { result ≡ bounds_of schema.now.dimensions }
 {
     bounds_within(schema.dimensions.as_slice())
-}
-
-/// The array that has these rows, with its overlaps as margins.
-#[tactic(auto, using(array_geom::proofs::MarginLaws::overlap_each, array_geom::proofs::MarginLaws::overlap_places))]
-pub(crate) fn built(schema: &Schema, rows: &List<Row>) -> Result<ChunkedArray, Memory>
-    requires { AreRowsOf schema.now rows.now }
-    ensures array { IfOk result (λ array. Is array (record { schema = schema.now; rows = Good rows.now })) }
-    ensures margins { IfOk result (λ array. array.margins.items ≡ overlaps schema.now.dimensions) }
-{
-    let margins = margins_of(schema);
-    assemble(schema, &margins, rows.as_slice())
 }
 
 /// An array that could not be computed.

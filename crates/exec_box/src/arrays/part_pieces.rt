@@ -58,7 +58,6 @@ fn raised_box(area: &Bounds, low: &Coord) -> Bounds
 /// The part's rows in a box.
 fn part_in(array: &ChunkedArray, area: &Bounds, target: &Bounds) -> Result<List<Row>, Memory>
     requires cells { HaveCells array.now.schema array.now.margins.items array.now.chunks }
-    requires rise { NumbersRise (numbers array.now.chunks) }
     ensures { IfOk result (λ rows. rows ≡ within target.now (subarray_rows (meet (bounds_of array.now.schema.dimensions) area.now) (cores_of array.now))) }
 {
     let area = bounds(&array.schema).meet(area);
@@ -83,7 +82,7 @@ struct OfPart<'a> {
 
 impl Work<ChunkAt, Chunk> for OfPart<'_> {
     ghost accepts = { λ of number. HaveCells of.array.now.schema of.array.now.margins.items of.array.now.chunks
-        × NumbersRise (numbers of.array.now.chunks) × HasFrame of.schema.now of.margins.now.items number.items };
+        × HasFrame of.schema.now of.margins.now.items number.items };
 
     ghost gives = { λ of number made. IsPartAt of.schema.now of.margins.now.items
         (subarray_rows (meet (bounds_of of.array.now.schema.dimensions) of.area.now) (cores_of of.array.now)) number made };
@@ -106,7 +105,6 @@ fn chunk_of_part(
     number: &ChunkAt,
 ) -> Result<Chunk, Memory>
     requires cells { HaveCells array.now.schema array.now.margins.items array.now.chunks }
-    requires rise { NumbersRise (numbers array.now.chunks) }
     requires framed { HasFrame schema.now margins.now.items number.now.items }
     ensures { IfOk result (IsPartAt schema.now margins.now.items
         (subarray_rows (meet (bounds_of array.now.schema.dimensions) area.now) (cores_of array.now)) number.now) }
@@ -152,7 +150,7 @@ fn numbers_of_part(
     in_order(found)
 }
 
-/// The part of an array that is not broken, whose chunks' numbers rise.
+/// The part of an array that is not broken, chunk by chunk.
 #[tactic(auto, using(array_geom::proofs::MarginLaws::overlap_each, array_geom::proofs::MarginLaws::overlap_places))]
 pub(crate) fn part_by_pieces(
     schema: &Schema,
@@ -161,7 +159,6 @@ pub(crate) fn part_by_pieces(
 ) -> Result<ChunkedArray, Memory>
     requires whole { array.now.broken ≡ None }
     requires cells { HaveCells array.now.schema array.now.margins.items array.now.chunks }
-    requires rise { NumbersRise (numbers array.now.chunks) }
     requires valid { IsValid schema.now }
     requires schema { schema.now ≡ subarray_schema area.now array.now.schema }
     ensures array { IfOk result (λ part. Is part (part_meant area.now (meant_by_cores array.now))) }

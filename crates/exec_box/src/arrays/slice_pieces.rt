@@ -78,7 +78,6 @@ fn spread_box(schema: &Schema, fixed: &[Fixed], area: &Bounds) -> Bounds
 /// The slice's rows in a box.
 fn slice_in(array: &ChunkedArray, fixed: &[Fixed], target: &Bounds) -> Result<List<Row>, Memory>
     requires cells { HaveCells array.now.schema array.now.margins.items array.now.chunks }
-    requires rise { NumbersRise (numbers array.now.chunks) }
     requires low { length target.now.lo.items ≡ length (items_but (fixed_places fixed.now) 0 array.now.schema.dimensions) }
     requires high { length target.now.hi.items ≡ length (items_but (fixed_places fixed.now) 0 array.now.schema.dimensions) }
     ensures { IfOk result (λ rows. rows ≡ within target.now (slice_rows fixed.now (cores_of array.now))) }
@@ -104,7 +103,6 @@ struct OfSlice<'a> {
 
 impl Work<ChunkAt, Chunk> for OfSlice<'_> {
     ghost accepts = { λ of number. HaveCells of.array.now.schema of.array.now.margins.items of.array.now.chunks
-        × NumbersRise (numbers of.array.now.chunks)
         × (of.schema.now.dimensions ≡ items_but (fixed_places of.fixed.now) 0 of.array.now.schema.dimensions)
         × HasFrame of.schema.now of.margins.now.items number.items };
 
@@ -128,7 +126,6 @@ fn chunk_of_slice(
     number: &ChunkAt,
 ) -> Result<Chunk, Memory>
     requires cells { HaveCells array.now.schema array.now.margins.items array.now.chunks }
-    requires rise { NumbersRise (numbers array.now.chunks) }
     requires schema { schema.now.dimensions ≡ items_but (fixed_places fixed.now) 0 array.now.schema.dimensions }
     requires framed { HasFrame schema.now margins.now.items number.now.items }
     ensures { IfOk result (IsPartAt schema.now margins.now.items (slice_rows fixed.now (cores_of array.now)) number.now) }
@@ -223,7 +220,7 @@ fn numbers_of_slice(
     in_order(found)
 }
 
-/// The slice of an array that is not broken, whose chunks' numbers rise.
+/// The slice of an array that is not broken, chunk by chunk.
 #[tactic(auto, using(array_geom::proofs::MarginLaws::overlap_each, array_geom::proofs::MarginLaws::overlap_places))]
 pub(crate) fn slice_by_pieces(
     schema: &Schema,
@@ -232,7 +229,6 @@ pub(crate) fn slice_by_pieces(
 ) -> Result<ChunkedArray, Memory>
     requires whole { array.now.broken ≡ None }
     requires cells { HaveCells array.now.schema array.now.margins.items array.now.chunks }
-    requires rise { NumbersRise (numbers array.now.chunks) }
     requires valid { IsValid schema.now }
     requires schema { schema.now ≡ slice_schema fixed.now array.now.schema }
     ensures array { IfOk result (λ slice. Is slice (slice_meant fixed.now (meant_by_cores array.now))) }

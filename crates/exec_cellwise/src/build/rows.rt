@@ -1,6 +1,5 @@
-//! The rows of a `build`: an expression's value at each coordinate.
+//! The numbers along a dimension of a `build`, and its values.
 
 mod build;
 
-pub use build::built_rows;
 pub(crate) use build::{count_of, fitted, number_at};

@@ -1,10 +1,9 @@
 //! Aggregates of an array's cells by dimensions.
-ghost use Rattle.std.specs.Prelude.{◌≡◌, None, length, IsTrue, IfOk};
-ghost use Rattle.std.specs.List.{AllByRecursion};
+ghost use Rattle.std.specs.Prelude.{◌≡◌, [], None, length, IsTrue, IfOk};
 ghost use Rattle.cell_values.specs.Schemas.{IsValid};
 ghost use Rattle.array_parts.specs.Cores.{HasCells, HaveCells, meant_by_cores};
 ghost use Rattle.array_geom.specs.Geometry.{overlaps};
-ghost use Rattle.array_geom.specs.Link.{Is, NumbersRise, numbers};
+ghost use Rattle.array_geom.specs.Link.{Is};
 ghost use Rattle.logical_plan.specs.PlanSchema.{aggregate_schema};
 ghost use Rattle.logical_plan.specs.Typing.{are_aggregates_of, are_below};
 ghost use Rattle.exec_group.specs.Meant.{aggregate_meant};
@@ -13,10 +12,11 @@ ghost use Rattle.exec_group.specs.Inner.Parts.{has_parts};
 use crate::parts::told_array;
 use crate::pieces::parts::groups_by_parts;
 use afl_outside::Gate;
-use area_cells::are_rising;
-use array_geom::{Chunk, ChunkedArray};
+use area_cells::broken_array;
+use array_geom::{Chunk, ChunkedArray, margins_of};
 use cell_values::{Memory, Schema};
 use chunk_workers::Crew;
+use group_rows::aggregate_groups;
 use logical_plan::Aggregate;
 use std::thread::Threads;
 
@@ -35,8 +35,6 @@ fn by_parts<R: Threads + Sync, G: Gate>(
     requires typed { IsTrue (are_aggregates_of array.schema.attributes aggs.now) }
     requires names { IsTrue (are_below (length array.schema.dimensions) dims.now) }
     requires some { IsTrue (has_parts dims.now array.chunks) }
-    requires rise { NumbersRise (numbers array.chunks) }
-    requires sized { AllByRecursion (λ k. length k ≡ length array.schema.dimensions) (numbers array.chunks) }
     ensures array { IfOk result (λ made. Is made (aggregate_meant aggs.now dims.now (meant_by_cores array))) }
     ensures margins { IfOk result (λ made. made.margins.items ≡ overlaps target.now.dimensions) }
 {
@@ -63,8 +61,55 @@ fn has_parts(dims: &[u32], chunks: &[Chunk]) -> bool
     }
 }
 
-/// The aggregates of the cells that agree in the named dimensions, of all cells without names: chunk by chunk where the numbers
-/// of the chunks rise, as those of an array do.
+/// The aggregates of an array without chunks.
+fn of_none(
+    array: ChunkedArray,
+    aggs: &[Aggregate],
+    dims: &[u32],
+    target: &Schema,
+) -> Result<ChunkedArray, Memory>
+    requires whole { array.broken ≡ None }
+    requires cells { HaveCells array.schema array.margins.items array.chunks }
+    requires target { target.now ≡ aggregate_schema aggs.now dims.now array.schema }
+    requires valid { IsValid target.now }
+    requires typed { IsTrue (are_aggregates_of array.schema.attributes aggs.now) }
+    requires names { IsTrue (are_below (length array.schema.dimensions) dims.now) }
+    requires none { array.chunks ≡ [] }
+    ensures array { IfOk result (λ made. Is made (aggregate_meant aggs.now dims.now (meant_by_cores array))) }
+    ensures margins { IfOk result (λ made. made.margins.items ≡ overlaps target.now.dimensions) }
+{
+    let rows = array.chunks.another();
+    let groups = aggregate_groups(&rows, aggs, dims)?;
+    told_array(groups, target)
+}
+
+/// The aggregates of an array that is not broken. Without names and without chunks there is a group all the same.
+fn of_whole<R: Threads + Sync, G: Gate>(
+    crew: &mut Crew<'_, R, G>,
+    array: ChunkedArray,
+    aggs: &[Aggregate],
+    dims: &[u32],
+    target: &Schema,
+) -> Result<ChunkedArray, Memory>
+    requires whole { array.broken ≡ None }
+    requires cells { HaveCells array.schema array.margins.items array.chunks }
+    requires target { target.now ≡ aggregate_schema aggs.now dims.now array.schema }
+    requires valid { IsValid target.now }
+    requires typed { IsTrue (are_aggregates_of array.schema.attributes aggs.now) }
+    requires names { IsTrue (are_below (length array.schema.dimensions) dims.now) }
+    ensures array { IfOk result (λ made. Is made (aggregate_meant aggs.now dims.now (meant_by_cores array))) }
+    ensures margins { IfOk result (λ made. made.margins.items ≡ overlaps target.now.dimensions) }
+{
+    if has_parts(dims, array.chunks.as_slice()) {
+        by_parts(crew, array, aggs, dims, target)
+    } else {
+        of_none(array, aggs, dims, target)
+    }
+}
+
+/// The aggregates of the cells that agree in the named dimensions, of all cells without names: an array of the target, chunk by
+/// chunk. What the array's margins hold doesn't matter.
+#[tactic(auto, using(array_geom::proofs::MarginLaws::overlap_each))]
 pub fn aggregate<R: Threads + Sync, G: Gate>(
     crew: &mut Crew<'_, R, G>,
     array: ChunkedArray,
@@ -80,12 +125,8 @@ pub fn aggregate<R: Threads + Sync, G: Gate>(
     ensures array { IfOk result (λ made. Is made (aggregate_meant aggs.now dims.now (meant_by_cores array))) }
     ensures margins { IfOk result (λ made. made.margins.items ≡ overlaps target.now.dimensions) }
 {
-    let parts = array.broken.is_none()
-        && has_parts(dims, array.chunks.as_slice())
-        && are_rising(array.chunks.as_slice(), array.schema.dimensions.len());
-    if parts {
-        by_parts(crew, array, aggs, dims, target)
-    } else {
-        crate::arrays::aggregate(array, aggs, dims, target)
+    match &array.broken {
+        Some(broken) => broken_array(target, &margins_of(target), broken),
+        None => of_whole(crew, array, aggs, dims, target),
     }
 }

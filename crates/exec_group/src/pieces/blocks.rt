@@ -1,10 +1,10 @@
 //! The aggregates of an array's blocks, chunk by chunk.
 ghost use Rattle.std.specs.Prelude.{◌≡◌, ◌≤◌, ◌<◌, ◌^◌, ◌∷◌, [], None, length, IsTrue, IfOk};
-ghost use Rattle.std.specs.List.{AllByRecursion, AllZip};
+ghost use Rattle.std.specs.List.{AllZip};
 ghost use Rattle.cell_values.specs.Schemas.{IsValid};
 ghost use Rattle.array_parts.specs.Cores.{HasCells, HaveCells, meant_by_cores};
 ghost use Rattle.array_geom.specs.Geometry.{overlaps};
-ghost use Rattle.array_geom.specs.Link.{Is, NumbersRise, numbers, core_rows};
+ghost use Rattle.array_geom.specs.Link.{Is, core_rows};
 ghost use Rattle.exec_group.specs.Meant.{regrid_meant};
 ghost use Rattle.group_rows.specs.Inner.Keys.{regrid_sets};
 ghost use Rattle.group_rows.specs.Counts.{cells_in};
@@ -16,8 +16,8 @@ ghost use Rattle.exec_group.specs.Inner.Parts.{IsBlockPartOf};
 use crate::parts::{regrid_part, told_array};
 use crate::pieces::parts::are_few;
 use afl_outside::Gate;
-use area_cells::are_rising;
-use array_geom::{Chunk, ChunkedArray};
+use area_cells::broken_array;
+use array_geom::{Chunk, ChunkedArray, margins_of};
 use cell_values::{List, Margins, Memory, Schema};
 use chunk_workers::{Crew, Work, over_pieces};
 use group_rows::{Groups, merge_all};
@@ -78,8 +78,7 @@ fn blocks_by_parts<R: Threads + Sync, G: Gate>(
     aggs: &[Aggregate],
 ) -> Result<Groups, Memory>
     requires cells { HaveCells schema.now margins.now.items chunks }
-    ensures whole { NumbersRise (numbers chunks) → AllByRecursion (λ k. length k ≡ length schema.now.dimensions) (numbers chunks)
-        → IfOk result (λ all. AreGroupsOf aggs.now
+    ensures whole { IfOk result (λ all. AreGroupsOf aggs.now
         (regrid_sets schema.now.dimensions blocks.now (core_rows schema.now.dimensions margins.now.items chunks)) all.groups) }
     ensures cells { IfOk result (λ all. cells_in all.groups < 2 ^ 63) }
 {
@@ -103,8 +102,6 @@ fn by_blocks<R: Threads + Sync, G: Gate>(
     requires target { target.now ≡ regrid_schema blocks.now aggs.now array.schema }
     requires valid { IsValid target.now }
     requires typed { IsTrue (are_aggregates_of array.schema.attributes aggs.now) }
-    requires rise { NumbersRise (numbers array.chunks) }
-    requires sized { AllByRecursion (λ k. length k ≡ length array.schema.dimensions) (numbers array.chunks) }
     ensures array { IfOk result (λ made. Is made (regrid_meant blocks.now aggs.now (meant_by_cores array))) }
     ensures margins { IfOk result (λ made. made.margins.items ≡ overlaps target.now.dimensions) }
 {
@@ -118,7 +115,8 @@ fn by_blocks<R: Threads + Sync, G: Gate>(
     told_array(groups, target)
 }
 
-/// The aggregates of the cells of each block: chunk by chunk where the numbers of the chunks rise, as those of an array do.
+/// The aggregates of the cells of each block: an array of the target, chunk by chunk. What the array's margins hold doesn't matter.
+#[tactic(auto, using(array_geom::proofs::MarginLaws::overlap_each))]
 pub fn regrid<R: Threads + Sync, G: Gate>(
     crew: &mut Crew<'_, R, G>,
     array: ChunkedArray,
@@ -133,11 +131,8 @@ pub fn regrid<R: Threads + Sync, G: Gate>(
     ensures array { IfOk result (λ made. Is made (regrid_meant blocks.now aggs.now (meant_by_cores array))) }
     ensures margins { IfOk result (λ made. made.margins.items ≡ overlaps target.now.dimensions) }
 {
-    let parts = array.broken.is_none()
-        && are_rising(array.chunks.as_slice(), array.schema.dimensions.len());
-    if parts {
-        by_blocks(crew, array, blocks, aggs, target)
-    } else {
-        crate::arrays::regrid(array, blocks, aggs, target)
+    match &array.broken {
+        Some(broken) => broken_array(target, &margins_of(target), broken),
+        None => by_blocks(crew, array, blocks, aggs, target),
     }
 }

@@ -1,7 +1,7 @@
 //! The groups of an array's cells, chunk by chunk.
 ghost use Rattle.std.specs.Prelude.{◌≡◌, ◌≤◌, ◌<◌, ◌^◌, ◌∷◌, [], length, IsTrue, IfOk};
-ghost use Rattle.std.specs.List.{AllByRecursion, AllZip};
-ghost use Rattle.array_geom.specs.Link.{NumbersRise, numbers, core_rows};
+ghost use Rattle.std.specs.List.{AllZip};
+ghost use Rattle.array_geom.specs.Link.{core_rows};
 ghost use Rattle.group_rows.specs.Inner.Keys.{aggregate_sets};
 ghost use Rattle.array_parts.specs.Cores.{HaveCells};
 ghost use Rattle.group_rows.specs.Counts.{cells_in};
@@ -92,8 +92,7 @@ pub(crate) fn groups_by_parts<R: Threads + Sync, G: Gate>(
     requires names { length dims.now ≤ 6 }
     ensures groups { AreAllApart (sets_of dims.now schema.now.dimensions margins.now.items chunks)
         → IfOk result (λ all. AreGroupsOf aggs.now (all_sets (sets_of dims.now schema.now.dimensions margins.now.items chunks)) all.groups) }
-    ensures whole { IsTrue (has_parts dims.now chunks) → NumbersRise (numbers chunks)
-        → AllByRecursion (λ k. length k ≡ length schema.now.dimensions) (numbers chunks)
+    ensures whole { IsTrue (has_parts dims.now chunks)
         → IfOk result (λ all. AreGroupsOf aggs.now (aggregate_sets dims.now (core_rows schema.now.dimensions margins.now.items chunks)) all.groups) }
     ensures cells { IfOk result (λ all. cells_in all.groups < 2 ^ 63) }
 {

@@ -122,8 +122,6 @@ fn crossed_in(
 ) -> Result<List<Row>, Memory>
     requires left_cells { HaveCells left.now.schema left.now.margins.items left.now.chunks }
     requires right_cells { HaveCells right.now.schema right.now.margins.items right.now.chunks }
-    requires left_rise { NumbersRise (numbers left.now.chunks) }
-    requires right_rise { NumbersRise (numbers right.now.chunks) }
     requires schema { schema.now ≡ cross_schema pairs.now left.now.schema right.now.schema }
     requires valid { IsValid schema.now }
     requires pairs { IsTrue (pairs_dimensions pairs.now left.now.schema right.now.schema) }
@@ -166,7 +164,6 @@ struct OfCross<'a> {
 impl Work<ChunkAt, Chunk> for OfCross<'_> {
     ghost accepts = { λ of number. HaveCells of.left.now.schema of.left.now.margins.items of.left.now.chunks
         × HaveCells of.right.now.schema of.right.now.margins.items of.right.now.chunks
-        × NumbersRise (numbers of.left.now.chunks) × NumbersRise (numbers of.right.now.chunks)
         × (of.schema.now ≡ cross_schema of.pairs.now of.left.now.schema of.right.now.schema)
         × IsTrue (pairs_dimensions of.pairs.now of.left.now.schema of.right.now.schema)
         × HasFrame of.schema.now of.margins.now.items number.items };
@@ -201,8 +198,6 @@ fn chunk_of_cross(
 ) -> Result<Chunk, Memory>
     requires left_cells { HaveCells left.now.schema left.now.margins.items left.now.chunks }
     requires right_cells { HaveCells right.now.schema right.now.margins.items right.now.chunks }
-    requires left_rise { NumbersRise (numbers left.now.chunks) }
-    requires right_rise { NumbersRise (numbers right.now.chunks) }
     requires schema { schema.now ≡ cross_schema pairs.now left.now.schema right.now.schema }
     requires pairs { IsTrue (pairs_dimensions pairs.now left.now.schema right.now.schema) }
     requires framed { HasFrame schema.now margins.now.items number.now.items }
@@ -214,7 +209,7 @@ fn chunk_of_cross(
     Ok(made)
 }
 
-/// The cross join of two arrays of which none is broken, whose chunks' numbers rise.
+/// The cross join of two arrays of which none is broken, chunk by chunk.
 #[tactic(auto, using(array_geom::proofs::MarginLaws::overlap_each, array_geom::proofs::MarginLaws::overlap_places))]
 pub(crate) fn cross_by_pieces(
     left: &ChunkedArray,
@@ -226,8 +221,6 @@ pub(crate) fn cross_by_pieces(
     requires right_whole { right.now.broken ≡ None }
     requires left_cells { HaveCells left.now.schema left.now.margins.items left.now.chunks }
     requires right_cells { HaveCells right.now.schema right.now.margins.items right.now.chunks }
-    requires left_rise { NumbersRise (numbers left.now.chunks) }
-    requires right_rise { NumbersRise (numbers right.now.chunks) }
     requires schema { schema.now ≡ cross_schema pairs.now left.now.schema right.now.schema }
     requires valid { IsValid schema.now }
     requires pairs { IsTrue (pairs_dimensions pairs.now left.now.schema right.now.schema) }

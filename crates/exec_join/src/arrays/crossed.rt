@@ -8,64 +8,11 @@ ghost use Rattle.logical_plan.specs.PlanSchema.{cross_schema};
 ghost use Rattle.logical_plan.specs.Typing.{pairs_dimensions};
 ghost use Rattle.exec_join.specs.Meant.{cross_meant};
 
-use crate::arrays::building::rows_of;
 use crate::arrays::cross_pieces::cross_by_pieces;
-use area_cells::are_rising;
 use array_geom::{ChunkedArray, margins_of};
 use cell_values::{Memory, Schema};
-use chunk_cells::{assemble, broken_array};
-use join_rows::cross_of_rows;
+use chunk_cells::broken_array;
 use logical_plan::Pair;
-
-/// The cross join of two arrays of which none is broken.
-#[tactic(auto, using(array_geom::proofs::MarginLaws::overlap_each, array_geom::proofs::MarginLaws::overlap_places))]
-fn of_whole(
-    left: ChunkedArray,
-    right: ChunkedArray,
-    pairs: &[Pair],
-    schema: &Schema,
-) -> Result<ChunkedArray, Memory>
-    requires left_whole { left.broken ≡ None }
-    requires right_whole { right.broken ≡ None }
-    requires left_cells { HaveCells left.schema left.margins.items left.chunks }
-    requires right_cells { HaveCells right.schema right.margins.items right.chunks }
-    requires schema { schema.now ≡ cross_schema pairs.now left.schema right.schema }
-    requires valid { IsValid schema.now }
-    requires pairs { IsTrue (pairs_dimensions pairs.now left.schema right.schema) }
-    ensures array { IfOk result (λ made. Is made (cross_meant schema.now pairs.now (meant_by_cores left) (meant_by_cores right))) }
-    ensures margins { IfOk result (λ made. made.margins.items ≡ overlaps schema.now.dimensions) }
-{
-    let left_rows = rows_of(left)?;
-    let right_rows = rows_of(right)?;
-    let rows = cross_of_rows(left_rows, right_rows, pairs)?;
-    assemble(schema, &margins_of(schema), rows.as_slice())
-}
-
-/// The cross join of two arrays of which none is broken, chunk by chunk where the numbers of their chunks rise, as those of an array do.
-fn of_both(
-    left: ChunkedArray,
-    right: ChunkedArray,
-    pairs: &[Pair],
-    schema: &Schema,
-) -> Result<ChunkedArray, Memory>
-    requires left_whole { left.broken ≡ None }
-    requires right_whole { right.broken ≡ None }
-    requires left_cells { HaveCells left.schema left.margins.items left.chunks }
-    requires right_cells { HaveCells right.schema right.margins.items right.chunks }
-    requires schema { schema.now ≡ cross_schema pairs.now left.schema right.schema }
-    requires valid { IsValid schema.now }
-    requires pairs { IsTrue (pairs_dimensions pairs.now left.schema right.schema) }
-    ensures array { IfOk result (λ made. Is made (cross_meant schema.now pairs.now (meant_by_cores left) (meant_by_cores right))) }
-    ensures margins { IfOk result (λ made. made.margins.items ≡ overlaps schema.now.dimensions) }
-{
-    let rise = are_rising(left.chunks.as_slice(), left.schema.dimensions.len())
-        && are_rising(right.chunks.as_slice(), right.schema.dimensions.len());
-    if rise {
-        cross_by_pieces(&left, &right, pairs, schema)
-    } else {
-        of_whole(left, right, pairs, schema)
-    }
-}
 
 /// The cross join of two arrays of which the left one is not broken.
 #[tactic(auto, using(array_geom::proofs::MarginLaws::overlap_each))]
@@ -86,7 +33,7 @@ fn with_right(
 {
     match &right.broken {
         Some(broken) => broken_array(schema, &margins_of(schema), broken),
-        None => of_both(left, right, pairs, schema),
+        None => cross_by_pieces(&left, &right, pairs, schema),
     }
 }
 

@@ -1,10 +1,9 @@
 //! Joins chunk by chunk: each chunk from the rows that both arrays have in its frame.
-ghost use Rattle.std.specs.Prelude.{◌≡◌, None, length, IfOk};
+ghost use Rattle.std.specs.Prelude.{◌≡◌, None, IfOk};
 ghost use Rattle.std.specs.List.{AllByRecursion};
 ghost use Rattle.cell_values.specs.Schemas.{IsValid};
-ghost use Rattle.array_rows.specs.Boxes.{within};
-ghost use Rattle.array_geom.specs.Geometry.{HasFrame, frame as frame_of, overlaps};
-ghost use Rattle.array_geom.specs.Link.{Is, IsPart, NumbersRise, numbers};
+ghost use Rattle.array_geom.specs.Geometry.{HasFrame, overlaps};
+ghost use Rattle.array_geom.specs.Link.{Is, IsPart, numbers};
 ghost use Rattle.array_parts.specs.Cores.{HaveCells, cores_of, meant_by_cores};
 ghost use Rattle.array_parts.specs.Placed.{HasPlaces};
 ghost use Rattle.chunk_cells.specs.Frames.{HasFrames};
@@ -13,26 +12,13 @@ ghost use Rattle.logical_plan.specs.Joins.{join_rows};
 ghost use Rattle.logical_plan.specs.PlanSchema.{join_schema};
 ghost use Rattle.exec_join.specs.Meant.{join_meant};
 
+use crate::arrays::meeting::meet;
 use afl_outside::Gate;
-use area_cells::{array_of_parts, chunk_of_rows, numbers_of, rows_in_area};
+use area_cells::{array_of_parts, found_in, numbers_of};
 use array_geom::{Chunk, ChunkedArray, frame, grid_of, margins_of};
-use cell_values::{Bounds, ChunkAt, List, Margins, Memory, Row, Schema};
+use cell_values::{ChunkAt, List, Margins, Memory, Row, Schema};
 use chunk_workers::{Crew, Work, over_pieces};
-use join_rows::join_of_rows;
 use std::thread::Threads;
-
-/// The joined rows in a box.
-fn joined_in(left: &ChunkedArray, right: &ChunkedArray, area: &Bounds) -> Result<List<Row>, Memory>
-    requires left_cells { HaveCells left.now.schema left.now.margins.items left.now.chunks }
-    requires right_cells { HaveCells right.now.schema right.now.margins.items right.now.chunks }
-    requires left_rise { NumbersRise (numbers left.now.chunks) }
-    requires right_rise { NumbersRise (numbers right.now.chunks) }
-    ensures { IfOk result (λ rows. rows ≡ within area.now (join_rows (cores_of left.now) (cores_of right.now))) }
-{
-    let from_left = rows_in_area(&left.schema, &left.margins, left.chunks.as_slice(), area)?;
-    let from_right = rows_in_area(&right.schema, &right.margins, right.chunks.as_slice(), area)?;
-    join_of_rows(from_left, from_right)
-}
 
 /// The join in a chunk's frame.
 fn join_part(
@@ -44,16 +30,28 @@ fn join_part(
 ) -> Result<Chunk, Memory>
     requires left_cells { HaveCells left.now.schema left.now.margins.items left.now.chunks }
     requires right_cells { HaveCells right.now.schema right.now.margins.items right.now.chunks }
-    requires left_rise { NumbersRise (numbers left.now.chunks) }
-    requires right_rise { NumbersRise (numbers right.now.chunks) }
     requires framed { HasFrame schema.now margins.now.items number.now.items }
     ensures number { IfOk result (λ made. made.at ≡ number.now) }
     ensures places { IfOk result (HasPlaces schema.now margins.now.items) }
     ensures part { IfOk result (IsPart schema.now.dimensions margins.now.items (join_rows (cores_of left.now) (cores_of right.now))) }
 {
     let area = frame(schema, margins, number);
-    let rows = joined_in(left, right, &area)?;
-    let made = chunk_of_rows(schema, margins, number, rows)?;
+    let grid = grid_of(schema, margins, number);
+    let from_left = found_in(
+        &left.schema,
+        &left.margins,
+        left.chunks.as_slice(),
+        &area,
+        &grid,
+    )?;
+    let from_right = found_in(
+        &right.schema,
+        &right.margins,
+        right.chunks.as_slice(),
+        &area,
+        &grid,
+    )?;
+    let made = meet(number, &grid, from_left, from_right)?;
     Ok(made)
 }
 
@@ -69,7 +67,6 @@ struct OfBoth<'a> {
 impl Work<ChunkAt, Chunk> for OfBoth<'_> {
     ghost accepts = { λ of number. HaveCells of.left.now.schema of.left.now.margins.items of.left.now.chunks
         × HaveCells of.right.now.schema of.right.now.margins.items of.right.now.chunks
-        × NumbersRise (numbers of.left.now.chunks) × NumbersRise (numbers of.right.now.chunks)
         × HasFrame of.schema.now of.margins.now.items number.items };
 
     ghost gives = { λ of number made. IsPartAt of.schema.now of.margins.now.items (join_rows (cores_of of.left.now) (cores_of of.right.now)) number made };
@@ -92,8 +89,6 @@ fn join_parts<R: Threads + Sync, G: Gate>(
 ) -> Result<List<Chunk>, Memory>
     requires left_cells { HaveCells left.now.schema left.now.margins.items left.now.chunks }
     requires right_cells { HaveCells right.now.schema right.now.margins.items right.now.chunks }
-    requires left_rise { NumbersRise (numbers left.now.chunks) }
-    requires right_rise { NumbersRise (numbers right.now.chunks) }
     requires schema { schema.now ≡ join_schema left.now.schema right.now.schema }
     requires frames { HasFrames schema.now margins.now.items }
     ensures numbers { IfOk result (λ parts. numbers parts ≡ numbers left.now.chunks) }
@@ -122,9 +117,6 @@ pub(crate) fn by_parts<R: Threads + Sync, G: Gate>(
     requires right_whole { right.broken ≡ None }
     requires left_cells { HaveCells left.schema left.margins.items left.chunks }
     requires right_cells { HaveCells right.schema right.margins.items right.chunks }
-    requires left_rise { NumbersRise (numbers left.chunks) }
-    requires right_rise { NumbersRise (numbers right.chunks) }
-    requires sized { AllByRecursion (λ k. length k ≡ length left.schema.dimensions) (numbers left.chunks) }
     requires schema { schema.now ≡ join_schema left.schema right.schema }
     requires valid { IsValid schema.now }
     ensures array { IfOk result (λ made. Is made (join_meant schema.now (meant_by_cores left) (meant_by_cores right))) }

@@ -1,19 +1,17 @@
 //! The groups of the cells of rows.
-ghost use Rattle.std.specs.Prelude.{◌≡◌, ◌≤◌, ◌<◌, ◌^◌, length, IsTrue, IfOk};
+ghost use Rattle.std.specs.Prelude.{◌≡◌, ◌≤◌, ◌<◌, ◌^◌, length, IfOk};
 ghost use Rattle.std.specs.List.{All};
-ghost use Rattle.cell_values.specs.Schemas.{IsValid};
-ghost use Rattle.array_rows.specs.Boxes.{is_inside, bounds_of};
 ghost use Rattle.array_rows.specs.Rows.{IsRising};
 ghost use Rattle.group_rows.specs.Counts.{cells_in};
 ghost use Rattle.group_rows.specs.Grouped.{AreGroupsOf};
-ghost use Rattle.group_rows.specs.Inner.Keys.{aggregate_sets, regrid_sets};
+ghost use Rattle.group_rows.specs.Inner.Keys.{aggregate_sets};
 ghost use Rattle.group_rows.specs.Inner.Places.{HasKey, key_of};
 ghost use Rattle.group_rows.specs.Sets.{sets_by};
 
 use crate::grouping::keys::{Grouping, keys_of};
 use crate::grouping::named::zero;
 use crate::rows::{Groups, groups_of, one_group};
-use cell_values::{List, Memory, Row, Schema};
+use cell_values::{List, Memory, Row};
 use logical_plan::Aggregate;
 
 /// The groups of cells by how they are grouped.
@@ -44,22 +42,4 @@ pub fn aggregate_groups(
         [] => one_group(rows.allocator(), aggs, &zero(), rows.as_slice()),
         [_, ..] => grouped(rows, aggs, &Grouping::Named(dims)),
     }
-}
-
-/// The groups of cells by blocks, which are counted from the low bounds of the array.
-pub fn regrid_groups(
-    schema: &Schema,
-    rows: &List<Row>,
-    blocks: &[u64],
-    aggs: &[Aggregate],
-) -> Result<Groups, Memory>
-    requires valid { IsValid schema.now }
-    requires few { length rows.now < 2 ^ 63 }
-    requires rising { IsRising rows.now }
-    requires inside { All (λ row. IsTrue (is_inside (bounds_of schema.now.dimensions) row.at.items)) rows.now }
-    ensures groups { IfOk result (λ part. AreGroupsOf aggs.now (regrid_sets schema.now.dimensions blocks.now rows.now) part.groups) }
-    ensures cells { IfOk result (λ part. cells_in part.groups ≤ length rows.now) }
-{
-    let dims = schema.dimensions.as_slice();
-    grouped(rows, aggs, &Grouping::Blocks(dims, blocks))
 }

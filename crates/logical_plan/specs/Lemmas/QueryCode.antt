@@ -25,6 +25,7 @@ use Rattle.logical_plan.specs.declared.parts.Reach.{Reach}
 use Rattle.logical_plan.specs.contracts.parts.Reach as reach_type
 use Rattle.logical_plan.specs.Query.{Query, built, listed, scanned, filtered, applied, projected, between, subarray}
 use Rattle.logical_plan.specs.Query.{sliced, joined, crossed, redimensioned, regridded, windowed, aggregated}
+use Rattle.logical_plan.specs.Query.{sorted, ranked, cumulated, transposed, reversed, unpacked, xgridded, merged, concatenated}
 
 abbrev schema_code : Coded Schema
 schema_code = schema_type.the_row.coded
@@ -97,6 +98,15 @@ numbers (redimensioned q s gs) rest = gnum 11 ∷ schema_code.code s ∷ aggrega
 numbers (regridded q ns gs) rest = gnum 12 ∷ numbers_code.code ns ∷ aggregates_code.code gs ∷ numbers q rest
 numbers (windowed q rs gs) rest = gnum 13 ∷ reach_code.code rs ∷ aggregates_code.code gs ∷ numbers q rest
 numbers (aggregated q gs ns) rest = gnum 14 ∷ aggregates_code.code gs ∷ numbers_code.code ns ∷ numbers q rest
+numbers (sorted q ns s) rest = gnum 15 ∷ numbers_code.code ns ∷ schema_code.code s ∷ numbers q rest
+numbers (ranked q n ns) rest = gnum 16 ∷ gnum n ∷ numbers_code.code ns ∷ numbers q rest
+numbers (cumulated q gs n) rest = gnum 17 ∷ aggregates_code.code gs ∷ gnum n ∷ numbers q rest
+numbers (transposed q) rest = gnum 18 ∷ numbers q rest
+numbers (reversed q) rest = gnum 19 ∷ numbers q rest
+numbers (unpacked q s) rest = gnum 20 ∷ schema_code.code s ∷ numbers q rest
+numbers (xgridded q ns) rest = gnum 21 ∷ numbers_code.code ns ∷ numbers q rest
+numbers (merged p q) rest = gnum 22 ∷ numbers p (numbers q rest)
+numbers (concatenated p q) rest = gnum 23 ∷ numbers p (numbers q rest)
 
 pub same_numbers : (p q : Query) (x y : List Gv) → numbers p x ≡ numbers q y → (p ≡ q) × (x ≡ y)
 unfolding numbers
@@ -152,6 +162,36 @@ same_numbers (aggregated p a ns) (aggregated q b ms) x y h =
     let aggregates : a ≡ b = aggregates_code.inj a b (ap second h) in
     let places : ns ≡ ms = numbers_code.inj ns ms (ap third h) in
     let r : (p ≡ q) × (x ≡ y) = same_numbers p q x y (ap after_three h) in (λ i. aggregated (r.0 i) (aggregates i) (places i), r.1)
+same_numbers (sorted p ns s) (sorted q ms t) x y h =
+    let keys : ns ≡ ms = numbers_code.inj ns ms (ap second h) in
+    let schemas : s ≡ t = schema_code.inj s t (ap third h) in
+    let r : (p ≡ q) × (x ≡ y) = same_numbers p q x y (ap after_three h) in (λ i. sorted (r.0 i) (keys i) (schemas i), r.1)
+same_numbers (ranked p m ns) (ranked q n ms) x y h =
+    let attributes : m ≡ n = ap (λ gs. num (second gs)) h in
+    let places : ns ≡ ms = numbers_code.inj ns ms (ap third h) in
+    let r : (p ≡ q) × (x ≡ y) = same_numbers p q x y (ap after_three h) in (λ i. ranked (r.0 i) (attributes i) (places i), r.1)
+same_numbers (cumulated p a m) (cumulated q b n) x y h =
+    let aggregates : a ≡ b = aggregates_code.inj a b (ap second h) in
+    let dimensions : m ≡ n = ap (λ gs. num (third gs)) h in
+    let r : (p ≡ q) × (x ≡ y) = same_numbers p q x y (ap after_three h) in (λ i. cumulated (r.0 i) (aggregates i) (dimensions i), r.1)
+same_numbers (transposed p) (transposed q) x y h =
+    let r : (p ≡ q) × (x ≡ y) = same_numbers p q x y (ap behind h) in (ap transposed r.0, r.1)
+same_numbers (reversed p) (reversed q) x y h =
+    let r : (p ≡ q) × (x ≡ y) = same_numbers p q x y (ap behind h) in (ap reversed r.0, r.1)
+same_numbers (unpacked p s) (unpacked q t) x y h =
+    let schemas : s ≡ t = schema_code.inj s t (ap second h) in
+    let r : (p ≡ q) × (x ≡ y) = same_numbers p q x y (ap after_two h) in (λ i. unpacked (r.0 i) (schemas i), r.1)
+same_numbers (xgridded p ns) (xgridded q ms) x y h =
+    let sizes : ns ≡ ms = numbers_code.inj ns ms (ap second h) in
+    let r : (p ≡ q) × (x ≡ y) = same_numbers p q x y (ap after_two h) in (λ i. xgridded (r.0 i) (sizes i), r.1)
+same_numbers (merged a b) (merged c d) x y h =
+    let first : (a ≡ c) × (numbers b x ≡ numbers d y) = same_numbers a c (numbers b x) (numbers d y) (ap behind h) in
+    let second : (b ≡ d) × (x ≡ y) = same_numbers b d x y first.1 in
+    (λ i. merged (first.0 i) (second.0 i), second.1)
+same_numbers (concatenated a b) (concatenated c d) x y h =
+    let first : (a ≡ c) × (numbers b x ≡ numbers d y) = same_numbers a c (numbers b x) (numbers d y) (ap behind h) in
+    let second : (b ≡ d) × (x ≡ y) = same_numbers b d x y first.1 in
+    (λ i. concatenated (first.0 i) (second.0 i), second.1)
 same_numbers p q x y h = absurd (eqb-false (first_number (numbers p x)) (first_number (numbers q y)) refl (ap first_number h))
 
 -- a code is its own code

@@ -1,10 +1,13 @@
 -- A plan with a box and a project that are to be put on it, operator by operator.
-use Rattle.std.specs.Prelude.{ℕ, if◌then◌else◌, List, length, Option, Some, None}
+use Rattle.std.specs.Prelude.{ℕ, Bool, true, false, if◌then◌else◌, List, length, Option, Some, None}
 use Rattle.cell_values.specs.declared.schema.Bounds.{Bounds}
+use Rattle.logical_plan.specs.declared.arity.UnaryNode.{UnaryNode}
+use Rattle.logical_plan.specs.declared.arity.UnaryNode.TheVariants.{Filter, Apply, Project, Between}
 use Rattle.logical_plan.specs.declared.parts.Applied.{Applied}
 use Rattle.logical_plan.specs.PlanSchema.{schema_of}
 use Rattle.logical_plan.specs.Query.{Query, built, listed, scanned, filtered, applied, projected, between, subarray}
 use Rattle.logical_plan.specs.Query.{sliced, joined, crossed, redimensioned, regridded, windowed, aggregated}
+use Rattle.logical_plan.specs.Query.{sorted, ranked, cumulated, transposed, reversed, unpacked, xgridded, merged, concatenated}
 use Rattle.plan_rewrite.specs.Inner.Pending.{shown, pending}
 use Rattle.plan_rewrite.specs.Inner.Trimmed.{met, picked, kept_for, places_for, names_none}
 
@@ -12,20 +15,13 @@ use Rattle.plan_rewrite.specs.Inner.Trimmed.{met, picked, kept_for, places_for, 
 abbrev pub applied_for : ℕ → List Applied → Option (List ℕ) → Query → Query
 applied_for n values places source = shown (places_for n values places) (applied source (kept_for n values places))
 
--- the last operator of a plan over another source, or over two others
-abbrev pub over_one : Query → Query → Query
-over_one (subarray source own) new = subarray new own
-over_one (sliced source fixed) new = sliced new fixed
-over_one (redimensioned source schema gs) new = redimensioned new schema gs
-over_one (regridded source sizes gs) new = regridded new sizes gs
-over_one (windowed source reach gs) new = windowed new reach gs
-over_one (aggregated source gs groups) new = aggregated new gs groups
-over_one query new = query
-
-abbrev pub over_two : Query → Query → Query → Query
-over_two (joined left right schema) a b = joined a b schema
-over_two (crossed left right pairs schema) a b = crossed a b pairs schema
-over_two query a b = query
+-- neither a box nor a project goes below the operator
+abbrev pub keeps_above : UnaryNode → Bool
+keeps_above (Filter test) = false
+keeps_above (Apply values) = false
+keeps_above (Project places) = false
+keeps_above (Between area) = false
+keeps_above node = true
 
 abbrev pub settle : Option Bounds → Option (List ℕ) → Query → Query
 settle area places (built schema e) = pending area places (built schema e)
@@ -45,3 +41,12 @@ settle area places (redimensioned source schema gs) = pending area places (redim
 settle area places (regridded source sizes gs) = pending area places (regridded (settle None None source) sizes gs)
 settle area places (windowed source reach gs) = pending area places (windowed (settle None None source) reach gs)
 settle area places (aggregated source gs groups) = pending area places (aggregated (settle None None source) gs groups)
+settle area places (sorted source keys schema) = pending area places (sorted (settle None None source) keys schema)
+settle area places (ranked source x dims) = pending area places (ranked (settle None None source) x dims)
+settle area places (cumulated source gs n) = pending area places (cumulated (settle None None source) gs n)
+settle area places (transposed source) = pending area places (transposed (settle None None source))
+settle area places (reversed source) = pending area places (reversed (settle None None source))
+settle area places (unpacked source schema) = pending area places (unpacked (settle None None source) schema)
+settle area places (xgridded source sizes) = pending area places (xgridded (settle None None source) sizes)
+settle area places (merged left right) = pending area places (merged (settle None None left) (settle None None right))
+settle area places (concatenated left right) = pending area places (concatenated (settle None None left) (settle None None right))

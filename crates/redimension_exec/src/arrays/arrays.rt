@@ -3,40 +3,17 @@ ghost use Rattle.std.specs.Prelude.{◌≡◌, ◌≤◌, ◌<◌, ◌^◌, None
 ghost use Rattle.cell_values.specs.Schemas.{IsValid};
 ghost use Rattle.array_parts.specs.Cores.{HasCells, HaveCells, cores_of, meant_by_cores};
 ghost use Rattle.array_geom.specs.Geometry.{overlaps};
-ghost use Rattle.array_geom.specs.Link.{Is, NumbersRise, numbers};
+ghost use Rattle.array_geom.specs.Link.{Is};
 ghost use Rattle.logical_plan.specs.Meaning.{redimensioned_from};
 ghost use Rattle.logical_plan.specs.Typing.{redimensions};
 
 use crate::arrays::building::{broken_target, fitted_array};
 use crate::arrays::cells::redimension_cells;
-use crate::arrays::gathering::{gathered_in_bands, gathered_rows};
+use crate::arrays::gathering::gathered_in_bands;
+use area_cells::are_few;
 use array_geom::ChunkedArray;
 use cell_values::{Memory, Schema};
-use group_rows::rows_of_cores;
 use logical_plan::Aggregate;
-use redimension_fill::has_bands;
-
-/// The redimension with aggregates of an array that is not broken, from all its rows.
-fn of_whole(
-    array: ChunkedArray,
-    target: &Schema,
-    aggs: &[Aggregate],
-) -> Result<ChunkedArray, Memory>
-    requires whole { array.broken ≡ None }
-    requires cells { HaveCells array.schema array.margins.items array.chunks }
-    requires valid { IsValid target.now }
-    requires typed { IsTrue (redimensions array.schema target.now aggs.now) }
-    requires some { 1 ≤ length aggs.now }
-    ensures array { IfOk result (λ made. Is made (redimensioned_from target.now aggs.now (meant_by_cores array))) }
-    ensures margins { IfOk result (λ made. made.margins.items ≡ overlaps target.now.dimensions) }
-{
-    let source = array.schema.copy()?;
-    let rows = rows_of_cores(array)?;
-    match gathered_rows(&source, target, aggs, rows)? {
-        Ok(rows) => fitted_array(target, rows),
-        Err(broken) => broken_target(target, &broken),
-    }
-}
 
 /// The redimension with aggregates of an array that is not broken, band by band.
 fn of_bands(
@@ -46,8 +23,6 @@ fn of_bands(
 ) -> Result<ChunkedArray, Memory>
     requires whole { array.now.broken ≡ None }
     requires cells { HaveCells array.now.schema array.now.margins.items array.now.chunks }
-    requires rise { NumbersRise (numbers array.now.chunks) }
-    requires chunks { 0 < length array.now.chunks }
     requires counted { length (cores_of array.now) < 2 ^ 63 }
     requires valid { IsValid target.now }
     requires typed { IsTrue (redimensions array.now.schema target.now aggs.now) }
@@ -61,7 +36,7 @@ fn of_bands(
     }
 }
 
-/// The redimension with aggregates of an array that is not broken.
+/// The same. The array is let go. More cells than can be counted are as good as no memory.
 fn of_array(
     array: ChunkedArray,
     target: &Schema,
@@ -75,13 +50,12 @@ fn of_array(
     ensures array { IfOk result (λ made. Is made (redimensioned_from target.now aggs.now (meant_by_cores array))) }
     ensures margins { IfOk result (λ made. made.margins.items ≡ overlaps target.now.dimensions) }
 {
-    if has_bands(&array) {
-        let made = of_bands(&array, target, aggs);
-        drop(array);
-        made
-    } else {
-        of_whole(array, target, aggs)
+    if !are_few(array.chunks.as_slice()) {
+        return Err(Memory);
     }
+    let made = of_bands(&array, target, aggs);
+    drop(array);
+    made
 }
 
 /// The cells of an array at the coordinates that their values and their own coordinates give the target's dimensions. Without

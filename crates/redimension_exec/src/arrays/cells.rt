@@ -10,29 +10,14 @@ ghost use Rattle.redimension_fill.specs.Inner.Filling.{HoldsLanded, no_margins};
 
 use crate::arrays::building::broken_target;
 use crate::telling::told_array;
+use area_cells::are_few;
 use array_geom::{Chunk, ChunkedArray};
 use cell_values::{Broken, ChunkAt, Margins, Memory, Schema};
-use group_rows::rows_of_cores;
-use redimension_fill::{filled_from_rows, filled_in_bands, has_bands, no_margins};
+use redimension_fill::{filled_in_bands, no_margins};
 use std::collections::BTreeMap;
 
-/// The target's chunks with what lands of an array's cores, or the first row that breaks the target, from all rows.
-fn filled_from_all(
-    array: ChunkedArray,
-    target: &Schema,
-    none: &Margins,
-) -> Result<Result<BTreeMap<ChunkAt, Chunk>, Broken>, Memory>
-    requires cells { HaveCells array.schema array.margins.items array.chunks }
-    requires valid { IsValid target.now }
-    requires margins { none.now.items ≡ no_margins target.now.dimensions }
-    ensures { IfOk result (HoldsLanded array.schema target.now (cores_of array)) }
-{
-    let source = array.schema.copy()?;
-    let rows = rows_of_cores(array)?;
-    filled_from_rows(&source, target, none, &rows)
-}
-
-/// The same, band by band where the array has bands.
+/// The target's chunks with what lands of an array's cores, or the first row that breaks the target, band by band. More cells than
+/// can be counted are as good as no memory.
 fn filled_from(
     array: ChunkedArray,
     target: &Schema,
@@ -43,11 +28,10 @@ fn filled_from(
     requires margins { none.now.items ≡ no_margins target.now.dimensions }
     ensures { IfOk result (HoldsLanded array.schema target.now (cores_of array)) }
 {
-    if has_bands(&array) {
-        filled_in_bands(array, target, none)
-    } else {
-        filled_from_all(array, target, none)
+    if !are_few(array.chunks.as_slice()) {
+        return Err(Memory);
     }
+    filled_in_bands(array, target, none)
 }
 
 /// The redimension of an array that is not broken.

@@ -3,14 +3,12 @@ ghost use Rattle.std.specs.Prelude.{◌≡◌, ◌≤◌, ◌<◌, ◌^◌, leng
 ghost use Rattle.cell_values.specs.Schemas.{IsValid};
 ghost use Rattle.array_rows.specs.Arrays.{AreRowsOf};
 ghost use Rattle.array_rows.specs.Boxes.{bounds_of};
-ghost use Rattle.array_geom.specs.Link.{NumbersRise, numbers};
 ghost use Rattle.array_parts.specs.Cores.{HaveCells, cores_of};
 ghost use Rattle.logical_plan.specs.Redimension.{gathered_rows, origin_of};
 ghost use Rattle.logical_plan.specs.Typing.{redimensions};
 ghost use Rattle.redimension_exec.specs.Inner.Grouping.{AreRowsTold};
 
 use crate::arrays::chunks::groups_of_cores;
-use crate::arrays::groups::groups_landed;
 use crate::arrays::ordering::aggregates_named;
 use array_geom::ChunkedArray;
 use cell_values::{Broken, List, Memory, Row, Schema};
@@ -33,31 +31,8 @@ fn told_of(
     }
 }
 
-/// For each coordinate of the target at which cells land, a row with the aggregates that the target's attributes name; or the first
-/// row that breaks the array, and why.
-#[tactic(auto, using(redimension_fill::proofs::BandLaws::few_dimensions))]
-pub(crate) fn gathered_rows(
-    source: &Schema,
-    target: &Schema,
-    aggregates: &[Aggregate],
-    rows: List<Row>,
-) -> Result<Result<List<Row>, Broken>, Memory>
-    requires rows { AreRowsOf source.now rows }
-    requires counted { length rows < 2 ^ 63 }
-    requires valid { IsValid target.now }
-    requires typed { IsTrue (redimensions source.now target.now aggregates.now) }
-    requires some { 1 ≤ length aggregates.now }
-    ensures values { IfOk result (λ made. made ≡ gathered_rows (map (origin_of source.now) target.now.dimensions)
-        (bounds_of target.now.dimensions) target.now.attributes aggregates.now rows) }
-    ensures rows { IfOk result (λ made. IfOk made (AreRowsOf target.now)) }
-{
-    let ordered = aggregates_named(&target.attributes, aggregates)?;
-    let found = groups_landed(source, target, ordered.as_slice(), rows);
-    drop(ordered);
-    told_of(found)
-}
-
-/// The same of the rows of an array's cores, chunk by chunk, or band by band where a row breaks the array.
+/// For each coordinate of the target at which cells of an array's cores land, a row with the aggregates that the target's attributes
+/// name; or the first row that breaks the array, and why. Found chunk by chunk, or band by band where a row breaks the array.
 #[tactic(auto, using(redimension_fill::proofs::BandLaws::few_dimensions))]
 pub(crate) fn gathered_in_bands(
     array: &ChunkedArray,
@@ -65,8 +40,6 @@ pub(crate) fn gathered_in_bands(
     aggregates: &[Aggregate],
 ) -> Result<Result<List<Row>, Broken>, Memory>
     requires cells { HaveCells array.now.schema array.now.margins.items array.now.chunks }
-    requires rise { NumbersRise (numbers array.now.chunks) }
-    requires chunks { 0 < length array.now.chunks }
     requires counted { length (cores_of array.now) < 2 ^ 63 }
     requires valid { IsValid target.now }
     requires typed { IsTrue (redimensions array.now.schema target.now aggregates.now) }

@@ -1,10 +1,7 @@
 //! Replies to queries.
-ghost use Rattle.std.specs.Prelude.{◌≡◌, ◌≤◌, ◌++◌, None, IfOk, OnOk, OnErr, IsTrue};
+ghost use Rattle.std.specs.Prelude.{◌≡◌, ◌≤◌, ◌++◌, None, IfOk, OnOk, OnErr};
 ghost use Rattle.cell_values.specs.declared.schema.Schema.{Schema};
 ghost use Rattle.array_parts.specs.Cores.{HaveCells, cores_of};
-ghost use Rattle.check_exprs.specs.Laws.{leaves_fit};
-ghost use Rattle.afl_types.specs.Arrays.{AreValid};
-ghost use Rattle.afl_types.specs.Queries.{query_of};
 ghost use Rattle.logical_plan.specs.Meaning.{Database, Meant, meaning};
 ghost use Rattle.logical_plan.specs.PlanSchema.{schema_of};
 ghost use Rattle.chunk_source.specs.Faults.{Answers};
@@ -13,9 +10,8 @@ ghost use Rattle.chunk_exec.specs.Computed.{CanCompute, asked_for_plan};
 ghost use Rattle.chunk_exec.specs.Found.{HasSchema, IsFound};
 ghost use Rattle.chunk_exec.specs.Held.{HoldsCells, rows_held};
 ghost use Rattle.result_print.specs.declared.refusal.Refusal.TheVariants.{Cell};
-ghost use Rattle.statement_replies.specs.Kinds.{IsQueryReply, IsRowsOver, IsTextOrRefusal};
+ghost use Rattle.statement_replies.specs.Kinds.{IsRowsOver, IsTextOrRefusal};
 ghost use Rattle.statement_replies.specs.Printed.{printed};
-ghost use Rattle.statement_replies.specs.Reading.{HoldsVersions, asked_for};
 ghost use Rattle.statement_replies.specs.Reply.{meant_reply, plan_reply};
 
 use crate::replies::replies::{Reply, or_fault, refuse};
@@ -23,62 +19,15 @@ use crate::replies::style::Style;
 use crate::replies::texts::{text_of, with_lines};
 use crate::replies::traces::lines_wanted;
 use afl_outside::Gate;
-use afl_trees::Tree;
-use afl_types::query_plan;
 use array_geom::ChunkedArray;
 use cell_values::{Broken, Bytes, Memory, copy_coord};
 use changed_chunks::let_go_array;
-use check_rules::TypeFault;
 use chunk_exec::{PlanArray, array_of};
 use chunk_source::{ChunkSource, ExecFault};
-use logical_plan::{Names, Plan, let_go};
+use logical_plan::Plan;
 use result_print::Refusal;
 use std::alloc::Global;
 use std::thread::Threads;
-
-/// The reply to the tree of a query, over the arrays of a source that has the versions of these names: the first rule that it
-/// breaks, else its array's first fault, else its array's text in this style.
-pub fn reply_to_query<S: ChunkSource, R: Threads + Sync, G: Gate>(
-    rt: &R,
-    alloc: Global,
-    text: &[u8],
-    tree: &Tree,
-    names: &Names,
-    source: &mut S,
-    style: Style,
-    workers: u32,
-    session: u32,
-    gate: &G,
-) -> Result<Reply, ExecFault>
-    requires undamaged { (S.state source.old).damaged ≡ None }
-    requires fit { IsTrue (leaves_fit tree.now) }
-    requires valid { AreValid names.now.arrays }
-    requires holds { HoldsVersions names.now (S.state source.old) }
-    requires workers { (1 ≤ workers) × (workers ≤ 64) }
-    ensures reply { IfOk result (IsQueryReply style names.now (S.state source.old) tree.now) }
-    ensures asked { let old = S.state source.old in
-        let all = asked_for old (query_of names.now.arrays tree.now) in
-        OnOk result ((S.state source.new).asked ≡ old.asked ++ all) }
-    ensures front { let old = S.state source.old in
-        let all = asked_for old (query_of names.now.arrays tree.now) in
-        OnErr result (AsksFront all old (S.state source.new)) }
-    ensures kept { Keeps (S.state source.old) (S.state source.new) }
-    ensures cause { Answers (S.state source.old) (S.state source.new) result }
-    ensures start { S.start source.new ≡ S.start source.old }
-{
-    match query_plan(alloc, tree, text, names) {
-        Ok(plan) => {
-            let answer = answer_query(rt, alloc, &plan, source, style, workers, session, gate);
-            let_go(plan);
-            answer
-        }
-        Err(TypeFault::Rule { span, kind }) => or_fault(refuse(
-            alloc,
-            Refusal::Typing { span, kind },
-        )),
-        Err(TypeFault::Memory) => Err(ExecFault::Memory),
-    }
-}
 
 /// The reply to a query's plan, over the arrays of a source that has the versions which it reads: its array's first fault, or else
 /// its array's text in this style, and behind it a line for each leaf where the style wants them.

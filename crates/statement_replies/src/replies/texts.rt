@@ -1,7 +1,7 @@
 //! The texts of arrays in chunks, band by band, so that the rows of one band at a time are in memory.
 ghost use Rattle.std.specs.Prelude.{◌≡◌, ℕ, List, ◌++◌, IfOk, OnOk};
 ghost use Rattle.std.specs.List.{flat_map};
-ghost use Rattle.array_geom.specs.Link.{NumbersRise, core_rows, numbers};
+ghost use Rattle.array_geom.specs.Link.{core_rows};
 ghost use Rattle.array_parts.specs.Cores.{HaveCells, cores_of};
 ghost use Rattle.array_parts.specs.Placed.{HavePlaces};
 ghost use Rattle.chunk_cells.specs.Whole.{CoresRise};
@@ -9,7 +9,7 @@ ghost use Rattle.statement_replies.specs.Inner.Parts.{names_part, row_part};
 ghost use Rattle.statement_replies.specs.Printed.{printed};
 
 use crate::replies::style::Style;
-use area_cells::{are_rising, count_in_band, rows_of_chunks};
+use area_cells::{count_in_band, rows_of_chunks};
 use array_geom::{Chunk, ChunkedArray};
 use cell_values::{Bytes, Margins, Memory, Row, Schema};
 use result_print::{name_record, push_lines, push_records, text_header};
@@ -54,28 +54,6 @@ fn push_chunks(
 }
 
 /// The same, band by band.
-fn push_bands(
-    text: &mut Bytes,
-    style: Style,
-    schema: &Schema,
-    margins: &Margins,
-    chunks: &[Chunk],
-) -> Result<(), Memory>
-    requires places { HavePlaces schema.now margins.now.items chunks.now }
-    requires cores { CoresRise schema.now.dimensions margins.now.items chunks.now }
-    requires rise { NumbersRise (numbers chunks.now) }
-    ensures { OnOk result (text.new ≡ text.old ++ flat_map (row_part style.csv) (core_rows schema.now.dimensions margins.now.items chunks.now)) }
-{
-    let mut rest = chunks;
-    while !rest.is_empty() {
-        let (band, further) = rest.split_at(count_in_band(schema, rest));
-        push_chunks(text, style, schema, margins, band)?;
-        rest = further;
-    }
-    Ok(())
-}
-
-/// Adds the rows of cores, band by band where the chunks' numbers rise.
 fn push_cores(
     text: &mut Bytes,
     style: Style,
@@ -86,11 +64,13 @@ fn push_cores(
     requires { HaveCells schema.now margins.now.items chunks.now }
     ensures { OnOk result (text.new ≡ text.old ++ flat_map (row_part style.csv) (core_rows schema.now.dimensions margins.now.items chunks.now)) }
 {
-    if are_rising(chunks, schema.dimensions.len()) {
-        push_bands(text, style, schema, margins, chunks)
-    } else {
-        push_chunks(text, style, schema, margins, chunks)
+    let mut rest = chunks;
+    while !rest.is_empty() {
+        let (band, further) = rest.split_at(count_in_band(schema, rest));
+        push_chunks(text, style, schema, margins, band)?;
+        rest = further;
     }
+    Ok(())
 }
 
 /// The text, in this style, of an array whose chunks have cells.

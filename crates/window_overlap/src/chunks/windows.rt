@@ -61,26 +61,6 @@ fn window_row(
     })
 }
 
-/// The aggregates of the window around each cell. A cell in doubt stays one.
-pub fn windows_of_rows(
-    rows: &List<Row>,
-    reach: &[Reach],
-    aggs: &[Aggregate],
-) -> Result<List<Row>, Memory>
-    requires few { length rows.now < 2 ^ 63 }
-    requires rising { IsRising rows.now }
-    requires low { HaveLowPlaces rows.now }
-    requires short { AreShort reach.now }
-    requires typed { CanAggregate aggs.now rows.now }
-    ensures { IfOk result (λ made. made ≡ window_rows reach.now aggs.now rows.now) }
-{
-    let mut made = List::with_capacity(rows.allocator(), rows.len())?;
-    for row in rows.as_slice() {
-        made.push(window_row(rows, row, reach, aggs)?)?;
-    }
-    Ok(made)
-}
-
 /// Adds what a row becomes, if the box has it.
 #[tactic(auto, using(crate::proofs::PieceLaws::no_window))]
 fn push_window(

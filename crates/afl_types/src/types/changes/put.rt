@@ -3,7 +3,7 @@ ghost use Rattle.std.specs.Prelude.{◌≡◌};
 ghost use Rattle.logical_plan.specs.PlanSchema.{schema_of};
 ghost use Rattle.plan_changes.specs.Changes.{entry_named};
 ghost use Rattle.check_rules.specs.Checked.{Answers};
-ghost use Rattle.afl_types.specs.Changes.{fitting, store_call, insert_call};
+ghost use Rattle.afl_types.specs.Changes.{fitting};
 ghost use Rattle.afl_types.specs.Inner.Putting.{new_schema, put_schema, put_in, put_target, put_change, put_call};
 
 use afl_trees::{Node, Tree};
@@ -164,34 +164,4 @@ pub(crate) fn put_call(
             Err(fault)
         }
     }
-}
-
-/// `store` of a plan and a tree, the array that it is stored in: the change, or the first rule that it breaks.
-///
-/// `span` is that of the whole call.
-pub fn store_call(
-    alloc: Global,
-    arrays: &List<NameEntry>,
-    span: Span,
-    plan: Plan,
-    target: &Tree,
-) -> Result<Change, TypeFault>
-    ensures { Answers result (store_call arrays.now span plan target.now) }
-{
-    put_call(alloc, Putting::Store, arrays, span, plan, target)
-}
-
-/// `insert` of a plan and a tree, the array that it is inserted into: the change, or the first rule that it breaks.
-///
-/// `span` is that of the whole call.
-pub fn insert_call(
-    alloc: Global,
-    arrays: &List<NameEntry>,
-    span: Span,
-    plan: Plan,
-    target: &Tree,
-) -> Result<Change, TypeFault>
-    ensures { Answers result (insert_call arrays.now span plan target.now) }
-{
-    put_call(alloc, Putting::Insert, arrays, span, plan, target)
 }

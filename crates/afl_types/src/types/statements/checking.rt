@@ -10,8 +10,8 @@ use crate::types::statements::statement::{of_change, of_query, said};
 use afl_trees::{Node, Tree};
 use cell_values::{Copies, Memory, Name};
 use check_rules::TypeFault;
-use logical_plan::{Names, Plan, let_go};
-use plan_changes::{Change, let_go_change};
+use logical_plan::{Names, Plan};
+use plan_changes::Change;
 use std::alloc::Global;
 
 /// A typed statement.
@@ -25,17 +25,6 @@ pub enum Typed {
     Show(Name),
     /// The stored arrays are listed.
     ListArrays,
-}
-
-/// Lets a typed statement go. That its parts can be let go is proved here once, and not again in each crate that calls this.
-pub fn let_go_typed(typed: Typed) {
-    match typed {
-        Typed::Query(plan) => let_go(plan),
-        Typed::Change(change) => let_go_change(change),
-        Typed::Versions(name) => drop(name),
-        Typed::Show(name) => drop(name),
-        Typed::ListArrays => {}
-    }
 }
 
 impl Typed {

@@ -6,7 +6,7 @@ ghost use Rattle.logical_plan.specs.Leaves.{leaves};
 ghost use Rattle.array_store.specs.Fresh.{has_name};
 
 use cell_values::Name;
-use logical_plan::{Plan, PlanNode};
+use logical_plan::{LeafNode, Plan, PlanShape};
 use plan_changes::{Change, is_same};
 
 /// Whether a plan reads an array of a name.
@@ -14,22 +14,11 @@ use plan_changes::{Change, is_same};
 fn reads_name(plan: &Plan, name: &Name) -> bool
     ensures { result ≡ list_any (λ leaf. bytes_eq name.now leaf.name) (leaves plan.now) }
 {
-    match &plan.node {
-        PlanNode::Build(_, _) | PlanNode::Literal(_, _) => false,
-        PlanNode::Scan(leaf) => is_same(name, &leaf.name),
-        PlanNode::Filter(source, _)
-        | PlanNode::Apply(source, _)
-        | PlanNode::Project(source, _)
-        | PlanNode::Between(source, _)
-        | PlanNode::Subarray(source, _)
-        | PlanNode::Slice(source, _)
-        | PlanNode::Redimension(source, _, _)
-        | PlanNode::Regrid(source, _, _)
-        | PlanNode::Window(source, _, _)
-        | PlanNode::Aggregate(source, _, _) => reads_name(source, name),
-        PlanNode::Join(left, right, _) | PlanNode::CrossJoin(left, right, _, _) => {
-            reads_name(left, name) || reads_name(right, name)
-        }
+    match plan.shape() {
+        PlanShape::Leaf(LeafNode::Build(..)) | PlanShape::Leaf(LeafNode::Literal(..)) => false,
+        PlanShape::Leaf(LeafNode::Scan(leaf)) => is_same(name, &leaf.name),
+        PlanShape::Unary(source, _) => reads_name(source, name),
+        PlanShape::Binary(left, right, _) => reads_name(left, name) || reads_name(right, name),
     }
 }
 

@@ -2,4 +2,4 @@
 
 mod rows;
 
-pub use rows::{PlanArray, PlanRows, array_of, rows_of};
+pub use rows::{PlanArray, PlanRows, array_of};

@@ -5,7 +5,7 @@ ghost use Rattle.cell_values.specs.Schemas.{IsValid};
 ghost use Rattle.array_rows.specs.Rows.{in_order};
 ghost use Rattle.array_geom.specs.Chunks.{IsChunk};
 ghost use Rattle.array_geom.specs.Geometry.{overlaps};
-ghost use Rattle.array_geom.specs.Link.{Is, chunk_rows};
+ghost use Rattle.array_geom.specs.Link.{Is, NumbersRise, chunk_rows, numbers};
 ghost use Rattle.logical_plan.specs.Meaning.{whole};
 ghost use Rattle.chunk_source.specs.Inner.Alone.{have_no_overlap, stand_alone};
 ghost use Rattle.chunk_source.specs.Read.{IsRead};
@@ -69,6 +69,7 @@ pub(crate) fn part_array(
 ) -> Result<ChunkedArray, Memory>
     requires valid { IsValid schema.now }
     requires chunks { AllByRecursion (IsChunk schema.now (overlaps schema.now.dimensions)) chunks }
+    requires rise { NumbersRise (numbers chunks) }
     ensures read { IfOk result (IsRead schema.now) }
     ensures alone { IsTrue alone → IfOk result (λ array. array.chunks ≡ chunks) }
     ensures together { alone ≡ false → IfOk result (λ array. Is array (whole schema.now

@@ -161,3 +161,114 @@ copy_plan-copy_source-requires-in-CrossJoin-2 t c =
     let whole : query_size c.in-CrossJoin.left.value + query_size c.in-CrossJoin.right.value + 1 ≡ query_size c.args.plan.now
     = ap query_size (sym (ap query_of c.in-CrossJoin.is) ∙ c.plan.view_is) in
     (omega (arith, whole, c.decreases), tt)
+
+pub copy_plan-returns-in-Sort : goal.copy_plan-returns-in-Sort
+copy_plan-returns-in-Sort t c =
+    subst (λ (q : Query). IfOk c.sort_of.result (λ p. p ≡ q)) (sym (ap query_of c.in-Sort.is) ∙ c.plan.view_is)
+    (c.sort_of.ensures _ c.copy_source-in-Sort.ensures)
+
+pub copy_plan-copy_source-requires-in-Sort : goal.copy_plan-copy_source-requires-in-Sort
+copy_plan-copy_source-requires-in-Sort t c =
+    let whole : query_size c.in-Sort.source.value + 1 ≡ query_size c.args.plan.now = ap query_size (sym (ap query_of c.in-Sort.is) ∙ c.plan.view_is)
+    in
+    (omega (arith, whole, c.decreases), tt)
+
+pub copy_plan-returns-in-Rank : goal.copy_plan-returns-in-Rank
+copy_plan-returns-in-Rank t c =
+    subst (λ (q : Query). IfOk c.rank_of.result (λ p. p ≡ q)) (sym (ap query_of c.in-Rank.is) ∙ c.plan.view_is)
+    (c.rank_of.ensures _ c.copy_source-in-Rank.ensures)
+
+pub copy_plan-copy_source-requires-in-Rank : goal.copy_plan-copy_source-requires-in-Rank
+copy_plan-copy_source-requires-in-Rank t c =
+    let whole : query_size c.in-Rank.source.value + 1 ≡ query_size c.args.plan.now = ap query_size (sym (ap query_of c.in-Rank.is) ∙ c.plan.view_is)
+    in
+    (omega (arith, whole, c.decreases), tt)
+
+pub copy_plan-returns-in-Cumulate : goal.copy_plan-returns-in-Cumulate
+copy_plan-returns-in-Cumulate t c =
+    subst (λ (q : Query). IfOk c.cumulate_of.result (λ p. p ≡ q)) (sym (ap query_of c.in-Cumulate.is) ∙ c.plan.view_is)
+    (c.cumulate_of.ensures _ c.copy_source-in-Cumulate.ensures)
+
+pub copy_plan-copy_source-requires-in-Cumulate : goal.copy_plan-copy_source-requires-in-Cumulate
+copy_plan-copy_source-requires-in-Cumulate t c =
+    let whole : query_size c.in-Cumulate.source.value + 1 ≡ query_size c.args.plan.now = ap query_size (sym (ap query_of c.in-Cumulate.is) ∙ c.plan.view_is)
+    in
+    (omega (arith, whole, c.decreases), tt)
+
+pub copy_plan-returns-in-Transpose : goal.copy_plan-returns-in-Transpose
+copy_plan-returns-in-Transpose t c =
+    subst (λ (q : Query). IfOk c.transpose_of.result (λ p. p ≡ q)) (sym (ap query_of c.in-Transpose.is) ∙ c.plan.view_is)
+    (c.transpose_of.ensures _ c.copy_source-in-Transpose.ensures)
+
+pub copy_plan-copy_source-requires-in-Transpose : goal.copy_plan-copy_source-requires-in-Transpose
+copy_plan-copy_source-requires-in-Transpose t c =
+    let whole : query_size c.in-Transpose.source.value + 1 ≡ query_size c.args.plan.now = ap query_size (sym (ap query_of c.in-Transpose.is) ∙ c.plan.view_is)
+    in
+    (omega (arith, whole, c.decreases), tt)
+
+pub copy_plan-returns-in-Reverse : goal.copy_plan-returns-in-Reverse
+copy_plan-returns-in-Reverse t c =
+    subst (λ (q : Query). IfOk c.reverse_of.result (λ p. p ≡ q)) (sym (ap query_of c.in-Reverse.is) ∙ c.plan.view_is)
+    (c.reverse_of.ensures _ c.copy_source-in-Reverse.ensures)
+
+pub copy_plan-copy_source-requires-in-Reverse : goal.copy_plan-copy_source-requires-in-Reverse
+copy_plan-copy_source-requires-in-Reverse t c =
+    let whole : query_size c.in-Reverse.source.value + 1 ≡ query_size c.args.plan.now = ap query_size (sym (ap query_of c.in-Reverse.is) ∙ c.plan.view_is)
+    in
+    (omega (arith, whole, c.decreases), tt)
+
+pub copy_plan-returns-in-Unpack : goal.copy_plan-returns-in-Unpack
+copy_plan-returns-in-Unpack t c =
+    subst (λ (q : Query). IfOk c.unpack_of.result (λ p. p ≡ q)) (sym (ap query_of c.in-Unpack.is) ∙ c.plan.view_is)
+    (c.unpack_of.ensures _ c.copy_source-in-Unpack.ensures)
+
+pub copy_plan-copy_source-requires-in-Unpack : goal.copy_plan-copy_source-requires-in-Unpack
+copy_plan-copy_source-requires-in-Unpack t c =
+    let whole : query_size c.in-Unpack.source.value + 1 ≡ query_size c.args.plan.now = ap query_size (sym (ap query_of c.in-Unpack.is) ∙ c.plan.view_is)
+    in
+    (omega (arith, whole, c.decreases), tt)
+
+pub copy_plan-returns-in-Xgrid : goal.copy_plan-returns-in-Xgrid
+copy_plan-returns-in-Xgrid t c =
+    subst (λ (q : Query). IfOk c.xgrid_of.result (λ p. p ≡ q)) (sym (ap query_of c.in-Xgrid.is) ∙ c.plan.view_is)
+    (c.xgrid_of.ensures _ c.copy_source-in-Xgrid.ensures)
+
+pub copy_plan-copy_source-requires-in-Xgrid : goal.copy_plan-copy_source-requires-in-Xgrid
+copy_plan-copy_source-requires-in-Xgrid t c =
+    let whole : query_size c.in-Xgrid.source.value + 1 ≡ query_size c.args.plan.now = ap query_size (sym (ap query_of c.in-Xgrid.is) ∙ c.plan.view_is)
+    in
+    (omega (arith, whole, c.decreases), tt)
+
+pub copy_plan-returns-in-Merge : goal.copy_plan-returns-in-Merge
+copy_plan-returns-in-Merge t c =
+    let made = c.merge_of.ensures _ _ c.copy_source-in-Merge.ensures c.copy_source-in-Merge-2.ensures in
+    subst (λ (q : Query). IfOk c.merge_of.result (λ p. p ≡ q)) (sym (ap query_of c.in-Merge.is) ∙ c.plan.view_is) made
+
+pub copy_plan-copy_source-requires-in-Merge : goal.copy_plan-copy_source-requires-in-Merge
+copy_plan-copy_source-requires-in-Merge t c =
+    let whole : query_size c.in-Merge.left.value + query_size c.in-Merge.right.value + 1 ≡ query_size c.args.plan.now
+    = ap query_size (sym (ap query_of c.in-Merge.is) ∙ c.plan.view_is) in
+    (omega (arith, whole, c.decreases), tt)
+
+pub copy_plan-copy_source-requires-in-Merge-2 : goal.copy_plan-copy_source-requires-in-Merge-2
+copy_plan-copy_source-requires-in-Merge-2 t c =
+    let whole : query_size c.in-Merge.left.value + query_size c.in-Merge.right.value + 1 ≡ query_size c.args.plan.now
+    = ap query_size (sym (ap query_of c.in-Merge.is) ∙ c.plan.view_is) in
+    (omega (arith, whole, c.decreases), tt)
+
+pub copy_plan-returns-in-Concat : goal.copy_plan-returns-in-Concat
+copy_plan-returns-in-Concat t c =
+    let made = c.concat_of.ensures _ _ c.copy_source-in-Concat.ensures c.copy_source-in-Concat-2.ensures in
+    subst (λ (q : Query). IfOk c.concat_of.result (λ p. p ≡ q)) (sym (ap query_of c.in-Concat.is) ∙ c.plan.view_is) made
+
+pub copy_plan-copy_source-requires-in-Concat : goal.copy_plan-copy_source-requires-in-Concat
+copy_plan-copy_source-requires-in-Concat t c =
+    let whole : query_size c.in-Concat.left.value + query_size c.in-Concat.right.value + 1 ≡ query_size c.args.plan.now
+    = ap query_size (sym (ap query_of c.in-Concat.is) ∙ c.plan.view_is) in
+    (omega (arith, whole, c.decreases), tt)
+
+pub copy_plan-copy_source-requires-in-Concat-2 : goal.copy_plan-copy_source-requires-in-Concat-2
+copy_plan-copy_source-requires-in-Concat-2 t c =
+    let whole : query_size c.in-Concat.left.value + query_size c.in-Concat.right.value + 1 ≡ query_size c.args.plan.now
+    = ap query_size (sym (ap query_of c.in-Concat.is) ∙ c.plan.view_is) in
+    (omega (arith, whole, c.decreases), tt)

@@ -1,7 +1,9 @@
 use Rattle.std.proofs.Common.{◌∙◌, ap, refl, subst, sym}
 use Rattle.logical_plan.specs.Query.{Query, filtered, applied, projected, between, subarray, sliced, regridded, windowed, aggregated}
+use Rattle.logical_plan.specs.Query.{ranked, cumulated, transposed, reversed, xgridded, merged, concatenated}
+use Rattle.logical_plan.specs.ShapeSchemas.{concat_schema, merge_schema}
 use Rattle.logical_plan.specs.Inner.QueryView.{query_of}
-use Rattle.plan_schemas.specs.Inner.Origins.{IsSource}
+use Rattle.plan_schemas.specs.Inner.Origins.{AreSources, IsSource}
 use Rattle.plan_schemas.proofs.schema.origin_of.Goals as goal
 
 pub returns-in-Filter : goal.returns-in-Filter
@@ -65,4 +67,55 @@ returns-in-Aggregate c =
     subst (λ (q : Query). IsSource q c.deref-in-Aggregate.result.now)
     (ap (λ (s : Query). aggregated s c.in-Aggregate.field-1 c.in-Aggregate.field-2) c.deref-in-Aggregate.ensures
     ∙ sym (ap query_of c.in-Aggregate.is) ∙ c.plan.view_is)
+    (refl, refl)
+
+pub returns-in-Rank : goal.returns-in-Rank
+returns-in-Rank c =
+    subst (λ (q : Query). IsSource q c.deref-in-Rank.result.now)
+    (ap (λ (s : Query). ranked s c.in-Rank.field-1 c.in-Rank.field-2) c.deref-in-Rank.ensures
+    ∙ sym (ap query_of c.in-Rank.is) ∙ c.plan.view_is)
+    (refl, refl)
+
+pub returns-in-Cumulate : goal.returns-in-Cumulate
+returns-in-Cumulate c =
+    subst (λ (q : Query). IsSource q c.deref-in-Cumulate.result.now)
+    (ap (λ (s : Query). cumulated s c.in-Cumulate.field-1 c.in-Cumulate.field-2) c.deref-in-Cumulate.ensures
+    ∙ sym (ap query_of c.in-Cumulate.is) ∙ c.plan.view_is)
+    (refl, refl)
+
+pub returns-in-Transpose : goal.returns-in-Transpose
+returns-in-Transpose c =
+    subst (λ (q : Query). IsSource q c.deref-in-Transpose.result.now)
+    (ap (λ (s : Query). transposed s) c.deref-in-Transpose.ensures
+    ∙ sym (ap query_of c.in-Transpose.is) ∙ c.plan.view_is)
+    (refl, refl)
+
+pub returns-in-Reverse : goal.returns-in-Reverse
+returns-in-Reverse c =
+    subst (λ (q : Query). IsSource q c.deref-in-Reverse.result.now)
+    (ap (λ (s : Query). reversed s) c.deref-in-Reverse.ensures
+    ∙ sym (ap query_of c.in-Reverse.is) ∙ c.plan.view_is)
+    (refl, refl)
+
+pub returns-in-Xgrid : goal.returns-in-Xgrid
+returns-in-Xgrid c =
+    subst (λ (q : Query). IsSource q c.deref-in-Xgrid.result.now)
+    (ap (λ (s : Query). xgridded s c.in-Xgrid.field-1) c.deref-in-Xgrid.ensures
+    ∙ sym (ap query_of c.in-Xgrid.is) ∙ c.plan.view_is)
+    (refl, refl)
+
+pub returns-in-Merge : goal.returns-in-Merge
+returns-in-Merge c =
+    subst (λ (q : Query). AreSources merge_schema q c.deref-in-Merge.result.now c.deref-in-Merge-2.result.now)
+    (ap (λ (s : Query). merged s c.deref-in-Merge-2.result.now) c.deref-in-Merge.ensures
+    ∙ ap (λ (s : Query). merged c.in-Merge.left.value s) c.deref-in-Merge-2.ensures
+    ∙ sym (ap query_of c.in-Merge.is) ∙ c.plan.view_is)
+    (refl, refl)
+
+pub returns-in-Concat : goal.returns-in-Concat
+returns-in-Concat c =
+    subst (λ (q : Query). AreSources concat_schema q c.deref-in-Concat.result.now c.deref-in-Concat-2.result.now)
+    (ap (λ (s : Query). concatenated s c.deref-in-Concat-2.result.now) c.deref-in-Concat.ensures
+    ∙ ap (λ (s : Query). concatenated c.in-Concat.left.value s) c.deref-in-Concat-2.ensures
+    ∙ sym (ap query_of c.in-Concat.is) ∙ c.plan.view_is)
     (refl, refl)

@@ -20,7 +20,7 @@ fill_bands-requires t c =
     let split = cut_rows source.dimensions margins half chunks front back (c.half_of_bands-half.ensures.rows margins) c.split_at.ensures.front c.split_at.ensures.back in
     let less : half < length chunks = search rules in (
       omega (arith, c.split_at.ensures.front_len, less, c.decreases),
-      (front_bands source margins half chunks front back c.requires.bands c.half_of_bands-half.ensures.some less split c.split_at.ensures.front, c.requires.target),
+      (front_bands source margins half chunks front back c.requires.bands split c.split_at.ensures.front, c.requires.target),
     )
 
 pub fill_bands-requires-in-None : goal.fill_bands-requires-in-None
@@ -33,8 +33,8 @@ fill_bands-requires-in-None t c =
     let back = c.split_at.result.1.now in
     let split = cut_rows source.dimensions margins half chunks front back (c.half_of_bands-half.ensures.rows margins) c.split_at.ensures.front c.split_at.ensures.back in
     let less : half < length chunks = search rules in (
-      omega (arith, c.split_at.ensures.back_len, c.half_of_bands-half.ensures.some, less, c.decreases),
-      (back_bands source margins half chunks front back c.requires.bands less split c.split_at.ensures.back, c.requires.target),
+      omega (arith, c.split_at.ensures.back_len, c.half_of_bands-half.ensures.some (omega (arith, less)), less, c.decreases),
+      (back_bands source margins half chunks front back c.requires.bands split c.split_at.ensures.back, c.requires.target),
     )
 
 pub returns-in-Some : goal.returns-in-Some

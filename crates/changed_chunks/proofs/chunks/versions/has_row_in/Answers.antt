@@ -1,7 +1,7 @@
 use Rattle.std.proofs.Common.{List, sym, ap, ◌∙◌, subst}
 use Rattle.array_geom.specs.declared.chunk.Chunk.{Chunk}
 use Rattle.array_rows.specs.Boxes.{within}
-use Rattle.array_geom.specs.Link.{NumbersRise, core_rows, numbers}
+use Rattle.array_geom.specs.Link.{core_rows}
 use Rattle.array_parts.specs.Placed.{HavePlaces}
 use Rattle.chunk_cells.specs.Whole.{CoresRise}
 use Rattle.changed_chunks.proofs.Written.{has_row, its_cores_rise, its_places}
@@ -14,9 +14,6 @@ rows_in_area-requires-clause-places c =
 pub rows_in_area-requires-clause-cores : goal.rows_in_area-requires-clause-cores
 rows_in_area-requires-clause-cores c =
     subst (λ (z : List Chunk). CoresRise c.args.put.now.schema.dimensions c.args.put.now.margins.items z) (sym c.as_slice.ensures) (its_cores_rise c.args.put.now c.requires)
-
-pub rows_in_area-requires-clause-rise : goal.rows_in_area-requires-clause-rise
-rows_in_area-requires-clause-rise c = subst (λ (z : List Chunk). NumbersRise (numbers z)) (sym c.as_slice.ensures) c.requires.holds.chunks.in_order
 
 pub returns : goal.returns
 returns c =

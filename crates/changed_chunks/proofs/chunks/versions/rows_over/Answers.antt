@@ -1,9 +1,9 @@
-use Rattle.changed_chunks.proofs.Written.{over_cells, over_rise, rows_are_over, rows_may}
+use Rattle.changed_chunks.proofs.Written.{over_placed, over_rise, rows_are_over, rows_may}
 use Rattle.changed_chunks.proofs.chunks.versions.rows_over.Goals as goal
 
 pub into_core_rows-requires-clause-places : goal.into_core_rows-requires-clause-places
 into_core_rows-requires-clause-places c =
-    (over_cells c.args.put.now c.requires.put c.args.old c.requires.old c.in_ok-copy.field-0 c.copy_numbers.result c.in_ok-both.field-0 c.in_ok-copy.ensures c.copy_numbers.ensures c.in_ok-both.ensures).placed
+    over_placed c.args.put.now c.requires.put c.args.old c.requires.old c.in_ok-copy.field-0 c.copy_numbers.result c.in_ok-both.field-0 c.in_ok-copy.ensures c.copy_numbers.ensures c.in_ok-both.ensures
 
 pub into_core_rows-requires-clause-rise : goal.into_core_rows-requires-clause-rise
 into_core_rows-requires-clause-rise c =

@@ -9,7 +9,7 @@ use Rattle.chunk_cells.proofs.WholeLaws.{all_cores}
 use Rattle.chunk_cells.proofs.reading.whole.gathered.Goals as goal
 
 pub gather-requires-clause-places : goal.gather-requires-clause-places
-gather-requires-clause-places c = subst (AllByRecursion (HasPlaces c.args.array.schema c.args.array.margins.items)) (sym (c.into_iter-chunks.ensures.rest ∙ c.into_vec.ensures)) c.requires.all
+gather-requires-clause-places c = subst (AllByRecursion (HasPlaces c.args.array.schema c.args.array.margins.items)) (sym (c.into_iter-chunks.ensures.rest ∙ c.into_vec.ensures)) c.requires
 
 pub returns : goal.returns
 returns c = λ rise.

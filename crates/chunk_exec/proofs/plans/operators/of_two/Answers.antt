@@ -3,8 +3,9 @@ use Rattle.std.specs.Prelude.{IfOk}
 use Rattle.array_parts.specs.Cores.{meant_by_cores}
 use Rattle.array_geom.specs.Link.{Is}
 use Rattle.exec_join.specs.Meant.{cross_meant, join_meant}
+use Rattle.logical_plan.specs.declared.arity.BinaryNode.{BinaryNode}
 use Rattle.logical_plan.specs.declared.parts.Pair.{Pair}
-use Rattle.logical_plan.specs.Inner.QueryView.{query_of}
+use Rattle.logical_plan.specs.Arity.{binary_query}
 use Rattle.logical_plan.specs.Query.{Query, joined, crossed}
 use Rattle.chunk_exec.specs.Inner.Operated.{IsResultOf}
 use Rattle.chunk_exec.proofs.OperatorLaws.{if_ok, join_result, cross_result}
@@ -12,26 +13,26 @@ use Rattle.chunk_exec.proofs.plans.operators.of_two.Goals as goal
 
 pub returns-in-Join : goal.returns-in-Join
 returns-in-Join g c =
-    let a = c.args.left in
-    let b = c.args.right in
-    let left = c.in-Join.field-0.value in
-    let right = c.in-Join.field-1.value in
-    let schema = c.in-Join.schema in
+    let a = c.args.a in
+    let b = c.args.b in
+    let left = c.args.left.now in
+    let right = c.args.right.now in
+    let schema = c.in-Join.schema.now in
     let query = joined left right schema in
-    let is : c.args.plan.now ≡ query = sym c.plan.view_is ∙ ap query_of c.in-Join.is in
+    let is : c.args.plan.now ≡ query = c.requires.node ∙ ap (λ (n : BinaryNode). binary_query n left right) c.in-Join.is in
     subst (λ (z : Query). IfOk c.join.result (IsResultOf z (a ∷ b ∷ []))) (sym is)
     (if_ok (λ made. Is made (join_meant schema (meant_by_cores a) (meant_by_cores b))) (IsResultOf query (a ∷ b ∷ [])) c.join.result (join_result left right schema a b) c.join.ensures.array)
 
 pub returns-in-CrossJoin : goal.returns-in-CrossJoin
 returns-in-CrossJoin g c =
-    let a = c.args.left in
-    let b = c.args.right in
-    let left = c.in-CrossJoin.field-0.value in
-    let right = c.in-CrossJoin.field-1.value in
-    let pairs = c.in-CrossJoin.pairs in
-    let schema = c.in-CrossJoin.schema in
+    let a = c.args.a in
+    let b = c.args.b in
+    let left = c.args.left.now in
+    let right = c.args.right.now in
+    let pairs = c.in-CrossJoin.pairs.now in
+    let schema = c.in-CrossJoin.schema.now in
     let query = crossed left right pairs schema in
-    let is : c.args.plan.now ≡ query = sym c.plan.view_is ∙ ap query_of c.in-CrossJoin.is in
+    let is : c.args.plan.now ≡ query = c.requires.node ∙ ap (λ (n : BinaryNode). binary_query n left right) c.in-CrossJoin.is in
     subst (λ (z : Query). IfOk c.cross_join.result (IsResultOf z (a ∷ b ∷ []))) (sym is)
     (if_ok (λ made. Is made (cross_meant schema pairs (meant_by_cores a) (meant_by_cores b))) (IsResultOf query (a ∷ b ∷ [])) c.cross_join.result (cross_result left right pairs schema a b)
     (subst (λ (z : List Pair). IfOk c.cross_join.result (λ made. Is made (cross_meant schema z (meant_by_cores a) (meant_by_cores b)))) c.as_slice.ensures c.cross_join.ensures.array))

@@ -2,11 +2,10 @@
 ghost use Rattle.std.specs.Prelude.{◌≡◌, ◌≤◌, ◌++◌, IfOk, OnOk, OnErr, None};
 ghost use Rattle.array_geom.specs.Link.{Is};
 ghost use Rattle.array_parts.specs.Cores.{HasCells};
-ghost use Rattle.array_parts.specs.Placed.{HavePlaces, IsSound};
+ghost use Rattle.array_parts.specs.Placed.{IsSound};
 ghost use Rattle.chunk_source.specs.Faults.{Answers};
 ghost use Rattle.chunk_source.specs.Source.{AsksFront, Keeps};
 ghost use Rattle.chunk_exec.specs.Computed.{CanCompute, asked_for_plan};
-ghost use Rattle.logical_plan.specs.Faults.{fault_of};
 ghost use Rattle.logical_plan.specs.Meaning.{Database, Meant, meaning};
 ghost use Rattle.logical_plan.specs.PlanSchema.{schema_of};
 ghost use Rattle.chunk_exec.specs.Found.{HasSchema, IsFound};
@@ -16,14 +15,13 @@ use crate::plans::execute;
 use crate::rows::rows::faults::first_fault;
 use afl_outside::Gate;
 use array_geom::ChunkedArray;
-use cell_values::{Broken, List, Memory, Row, Schema};
-use chunk_cells::into_rows;
+use cell_values::{Broken, List, Row, Schema};
 use chunk_source::{ChunkSource, ExecFault};
 use logical_plan::Plan;
 use std::alloc::Global;
 use std::thread::Threads;
 
-/// What a plan gives: its array's first fault, or else its schema and its rows.
+/// What contracts say that a plan gives: its array's first fault, or else its schema and its rows. No value of it is made.
 #[derive(Drop)]
 pub enum PlanRows {
     Fault(Broken),
@@ -77,57 +75,4 @@ fn array_in(array: ChunkedArray) -> PlanArray
         Some(broken) => PlanArray::Fault(broken),
         None => PlanArray::Whole(array),
     }
-}
-
-/// What a plan gives over the arrays of a source.
-pub fn rows_of<S: ChunkSource, R: Threads + Sync, G: Gate>(
-    rt: &R,
-    alloc: Global,
-    plan: &Plan,
-    source: &mut S,
-    workers: u32,
-    session: u32,
-    gate: &G,
-) -> Result<PlanRows, ExecFault>
-    requires undamaged { (S.state source.old).damaged ≡ None }
-    requires can { CanCompute (S.state source.old) plan.now }
-    requires workers { (1 ≤ workers) × (workers ≤ 64) }
-    ensures schema { IfOk result (HasSchema (schema_of plan.now)) }
-    ensures found { IfOk result (λ found. (db : Database) → (S.state source.old).tells db → IsFound (meaning db plan.now) found) }
-    ensures asked { OnOk result ((S.state source.new).asked ≡ (S.state source.old).asked ++ asked_for_plan (S.state source.old) plan.now) }
-    ensures front { let old = S.state source.old in OnErr result (AsksFront (asked_for_plan old plan.now) old (S.state source.new)) }
-    ensures kept { Keeps (S.state source.old) (S.state source.new) }
-    ensures cause { Answers (S.state source.old) (S.state source.new) result }
-    ensures start { S.start source.new ≡ S.start source.old }
-{
-    match execute(rt, alloc, plan, source, workers, session, gate) {
-        Ok(array) => match rows_in(array) {
-            Ok(found) => Ok(found),
-            Err(Memory) => Err(ExecFault::Memory),
-        },
-        Err(fault) => Err(fault),
-    }
-}
-
-/// An array's first fault, or else its schema and its rows.
-fn rows_in(array: ChunkedArray) -> Result<PlanRows, Memory>
-    requires { IsSound array }
-    ensures schema { IfOk result (HasSchema array.schema) }
-    ensures found { (meant : Meant) → Is array meant → IfOk result (IsFound meant) }
-{
-    match first_fault(&array) {
-        Some(broken) => Ok(PlanRows::Fault(broken)),
-        None => whole_rows(array),
-    }
-}
-
-/// The schema and the rows of an array that is not broken.
-fn whole_rows(array: ChunkedArray) -> Result<PlanRows, Memory>
-    requires { HavePlaces array.schema array.margins.items array.chunks }
-    ensures schema { IfOk result (HasSchema array.schema) }
-    ensures found { (meant : Meant) → Is array meant → fault_of meant.rows ≡ None → IfOk result (IsFound meant) }
-{
-    let schema = array.schema.copy()?;
-    let rows = into_rows(array)?;
-    Ok(PlanRows::Rows(schema, rows))
 }

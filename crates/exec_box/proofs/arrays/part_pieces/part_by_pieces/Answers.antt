@@ -2,7 +2,6 @@ use Rattle.std.proofs.Common.{refl, subst}
 use Rattle.cell_values.specs.Schemas.{IsValid}
 use Rattle.array_rows.specs.Boxes.{bounds_of, meet}
 use Rattle.array_geom.specs.Geometry.{HasFrame}
-use Rattle.array_geom.specs.Link.{NumbersRise, numbers}
 use Rattle.array_geom.proofs.MarginLaws.{overlap_each, overlap_places}
 use Rattle.array_parts.specs.Cores.{HaveCells, cores_of}
 use Rattle.logical_plan.specs.BoxOps.{subarray_rows}
@@ -17,8 +16,8 @@ in_turn-requires-after_bounds c κs =
     let array = c.args.array.now in
     let schema = c.args.schema.now in
     let margins = c.margins_of-margins.result.items in
-    each_accepted schema margins (λ number. HaveCells array.schema array.margins.items array.chunks × NumbersRise (numbers array.chunks) × HasFrame schema margins number.items) c.in_ok-numbers.numbers c.requires.valid
-    (overlap_each schema margins c.margins_of-margins.ensures) (overlap_places schema margins c.margins_of-margins.ensures c.requires.valid) (λ number framed. (c.requires.cells, c.requires.rise, framed)) c.in_ok-numbers.ensures.reached.cores
+    each_accepted schema margins (λ number. HaveCells array.schema array.margins.items array.chunks × HasFrame schema margins number.items) c.in_ok-numbers.numbers c.requires.valid
+    (overlap_each schema margins c.margins_of-margins.ensures) (overlap_places schema margins c.margins_of-margins.ensures c.requires.valid) (λ number framed. (c.requires.cells, framed)) c.in_ok-numbers.ensures.reached.cores
 
 pub array_of_parts-requires : goal.array_of_parts-requires
 array_of_parts-requires c =
@@ -26,7 +25,7 @@ array_of_parts-requires c =
     let schema = c.args.schema.now in
     let margins = c.margins_of-margins.result.items in
     made_places schema margins (subarray_rows (meet (bounds_of array.schema.dimensions) c.args.area.now) (cores_of array)) c.in_ok-numbers.numbers c.in_ok-parts.parts c.requires.valid
-    (overlap_each schema margins c.margins_of-margins.ensures) (overlap_places schema margins c.margins_of-margins.ensures c.requires.valid) c.in_ok-parts.ensures
+    (overlap_each schema margins c.margins_of-margins.ensures) (overlap_places schema margins c.margins_of-margins.ensures c.requires.valid) c.in_ok-numbers.ensures.in_order c.in_ok-numbers.ensures.reached.cores c.in_ok-parts.ensures
 
 pub returns-clause-array : goal.returns-clause-array
 returns-clause-array c =

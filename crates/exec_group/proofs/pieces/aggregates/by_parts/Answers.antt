@@ -17,14 +17,14 @@ told_array-requires-clause-sets g c =
     let rows = cores_of c.args.array in
     let rows_of = of_cores c.args.array rows refl c.requires.cells in
     can_tell c.args.array.schema c.args.target.now c.args.aggs.now (aggregate_sets c.args.dims.now rows) c.in_ok-groups.groups.groups (ap (λ (s : Schema). s.attributes) c.requires.target) c.requires.typed
-    (aggregate_fits c.args.array.schema c.args.target.now c.args.aggs.now c.args.dims.now rows rows_of c.requires.target c.requires.names) (c.in_ok-groups.ensures.whole c.requires.some c.requires.rise c.requires.sized)
+    (aggregate_fits c.args.array.schema c.args.target.now c.args.aggs.now c.args.dims.now rows rows_of c.requires.target c.requires.names) (c.in_ok-groups.ensures.whole c.requires.some)
 
 pub returns-clause-array : goal.returns-clause-array
 returns-clause-array g c =
     let rows = cores_of c.args.array in
     let rows_of = of_cores c.args.array rows refl c.requires.cells in
     let can = can_tell c.args.array.schema c.args.target.now c.args.aggs.now (aggregate_sets c.args.dims.now rows) c.in_ok-groups.groups.groups (ap (λ (s : Schema). s.attributes) c.requires.target) c.requires.typed
-    (aggregate_fits c.args.array.schema c.args.target.now c.args.aggs.now c.args.dims.now rows rows_of c.requires.target c.requires.names) (c.in_ok-groups.ensures.whole c.requires.some c.requires.rise c.requires.sized) in
+    (aggregate_fits c.args.array.schema c.args.target.now c.args.aggs.now c.args.dims.now rows rows_of c.requires.target c.requires.names) (c.in_ok-groups.ensures.whole c.requires.some) in
     if_ok c.told_array.result (c.told_array.ensures.array can)
     (λ made h. told_whole (aggregate_schema c.args.aggs.now c.args.dims.now) (λ s. aggregate_rows c.args.dims.now c.args.aggs.now) c.args.array c.args.aggs.now (aggregate_sets c.args.dims.now rows) c.args.target.now rows made
     refl c.requires.whole c.requires.target (aggregate_told c.args.dims.now c.args.aggs.now rows) h)

@@ -12,8 +12,8 @@ merge_all-requires g c =
     record { room = omega arith }
 
 pub returns-clause-whole : goal.returns-clause-whole
-returns-clause-whole g c = λ rise sized.
-    whole_blocks c.args.aggs.now c.args.blocks.now c.args.schema.now c.args.margins.now.items c.args.chunks c.merge_all.result c.requires.cells rise sized
+returns-clause-whole g c =
+    whole_blocks c.args.aggs.now c.args.blocks.now c.args.schema.now c.args.margins.now.items c.args.chunks c.merge_all.result c.requires.cells
     (λ apart. c.merge_all.ensures.groups c.args.aggs.now (block_sets_of c.args.blocks.now c.args.schema.now.dimensions c.args.margins.now.items c.args.chunks)
     (block_parts_found c.args.aggs.now c.args.blocks.now c.args.schema.now.dimensions c.args.margins.now.items c.args.chunks c.in_ok-parts.parts c.in_ok-parts.ensures) apart)
 

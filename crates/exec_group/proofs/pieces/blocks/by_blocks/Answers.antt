@@ -15,14 +15,14 @@ told_array-requires-clause-sets g c =
     let rows = cores_of c.args.array in
     let rows_of = of_cores c.args.array rows refl c.requires.cells in
     can_tell c.args.array.schema c.args.target.now c.args.aggs.now (regrid_sets c.args.array.schema.dimensions c.args.blocks.now rows) c.in_ok-groups.groups.groups (ap (λ (s : Schema). s.attributes) c.requires.target) c.requires.typed
-    (regrid_fits c.args.array.schema c.args.target.now c.args.aggs.now c.args.blocks.now rows rows_of c.requires.target) (c.in_ok-groups.ensures.whole c.requires.rise c.requires.sized)
+    (regrid_fits c.args.array.schema c.args.target.now c.args.aggs.now c.args.blocks.now rows rows_of c.requires.target) c.in_ok-groups.ensures.whole
 
 pub returns-clause-array : goal.returns-clause-array
 returns-clause-array g c =
     let rows = cores_of c.args.array in
     let rows_of = of_cores c.args.array rows refl c.requires.cells in
     let can = can_tell c.args.array.schema c.args.target.now c.args.aggs.now (regrid_sets c.args.array.schema.dimensions c.args.blocks.now rows) c.in_ok-groups.groups.groups (ap (λ (s : Schema). s.attributes) c.requires.target) c.requires.typed
-    (regrid_fits c.args.array.schema c.args.target.now c.args.aggs.now c.args.blocks.now rows rows_of c.requires.target) (c.in_ok-groups.ensures.whole c.requires.rise c.requires.sized) in
+    (regrid_fits c.args.array.schema c.args.target.now c.args.aggs.now c.args.blocks.now rows rows_of c.requires.target) c.in_ok-groups.ensures.whole in
     if_ok c.told_array.result (c.told_array.ensures.array can)
     (λ made h. told_whole (regrid_schema c.args.blocks.now c.args.aggs.now) (λ s. regrid_rows (bounds_of s.dimensions).lo.items c.args.blocks.now c.args.aggs.now) c.args.array c.args.aggs.now
     (regrid_sets c.args.array.schema.dimensions c.args.blocks.now rows) c.args.target.now rows made

@@ -17,8 +17,8 @@ returns-clause-groups g c = λ apart.
     (parts_found c.args.aggs.now c.args.dims.now c.args.schema.now.dimensions c.args.margins.now.items c.args.chunks c.in_ok-parts.parts c.in_ok-parts.ensures) apart
 
 pub returns-clause-whole : goal.returns-clause-whole
-returns-clause-whole g c = λ whole rise sized.
-    whole_groups c.args.aggs.now c.args.dims.now c.args.schema.now c.args.margins.now.items c.args.chunks c.merge_all.result c.requires.cells whole rise sized
+returns-clause-whole g c = λ some.
+    whole_groups c.args.aggs.now c.args.dims.now c.args.schema.now c.args.margins.now.items c.args.chunks c.merge_all.result c.requires.cells some
     (λ apart. c.merge_all.ensures.groups c.args.aggs.now (sets_of c.args.dims.now c.args.schema.now.dimensions c.args.margins.now.items c.args.chunks)
     (parts_found c.args.aggs.now c.args.dims.now c.args.schema.now.dimensions c.args.margins.now.items c.args.chunks c.in_ok-parts.parts c.in_ok-parts.ensures) apart)
 

@@ -26,17 +26,17 @@ in_turn-requires-after_bounds c κs =
     let schema = c.args.schema.now in
     let margins = c.margins_of-margins.result.items in
     each_accepted schema margins
-    (λ number. HaveCells left.schema left.margins.items left.chunks × HaveCells right.schema right.margins.items right.chunks × NumbersRise (numbers left.chunks) × NumbersRise (numbers right.chunks) × (schema ≡ cross_schema c.args.pairs.now left.schema right.schema)
+    (λ number. HaveCells left.schema left.margins.items left.chunks × HaveCells right.schema right.margins.items right.chunks × (schema ≡ cross_schema c.args.pairs.now left.schema right.schema)
     × IsTrue (pairs_dimensions c.args.pairs.now left.schema right.schema) × HasFrame schema margins number.items) c.in_ok-numbers.numbers c.requires.valid
     (overlap_each schema margins c.margins_of-margins.ensures) (overlap_places schema margins c.margins_of-margins.ensures c.requires.valid)
-    (λ number framed. (c.requires.left_cells, c.requires.right_cells, c.requires.left_rise, c.requires.right_rise, c.requires.schema, c.requires.pairs, framed)) c.in_ok-numbers.ensures.crossed.cores
+    (λ number framed. (c.requires.left_cells, c.requires.right_cells, c.requires.schema, c.requires.pairs, framed)) c.in_ok-numbers.ensures.crossed.cores
 
 pub array_of_parts-requires : goal.array_of_parts-requires
 array_of_parts-requires c =
     let schema = c.args.schema.now in
     let margins = c.margins_of-margins.result.items in
     made_places schema margins (cross_rows c.args.pairs.now (cores_of c.args.left.now) (cores_of c.args.right.now)) c.in_ok-numbers.numbers c.in_ok-parts.parts c.requires.valid
-    (overlap_each schema margins c.margins_of-margins.ensures) (overlap_places schema margins c.margins_of-margins.ensures c.requires.valid) c.in_ok-parts.ensures
+    (overlap_each schema margins c.margins_of-margins.ensures) (overlap_places schema margins c.margins_of-margins.ensures c.requires.valid) c.in_ok-numbers.ensures.in_order c.in_ok-numbers.ensures.crossed.cores c.in_ok-parts.ensures
 
 pub returns-clause-array : goal.returns-clause-array
 returns-clause-array c =

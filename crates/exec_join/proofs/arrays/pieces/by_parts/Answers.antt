@@ -23,16 +23,23 @@ returns-clause-array g c =
     (c.array_of_parts.ensures.array rows
     (join_are_rows left.schema right.schema c.args.schema.now (cores_of left) (cores_of right) (of_cores left (cores_of left) refl c.requires.left_cells) (of_cores right (cores_of right) refl c.requires.right_cells) c.requires.schema c.requires.valid)
     (joined_parts left.schema right.schema c.args.schema.now left.margins.items c.margins_of-margins.result.items (cores_of left) (cores_of right) left.chunks c.in_ok-parts.parts c.requires.schema refl c.requires.left_cells c.in_ok-parts.ensures.numbers
-    c.requires.left_rise c.requires.sized c.in_ok-parts.ensures.parts))
+    c.in_ok-parts.ensures.parts))
 
 pub array_of_parts-requires : goal.array_of_parts-requires
 array_of_parts-requires g c =
     let schema = c.args.schema.now in
     let margins = c.margins_of-margins in
+    let left = c.args.left in
+    let right = c.args.right in
+    let parts =
+    joined_parts left.schema right.schema schema left.margins.items margins.result.items (cores_of left) (cores_of right) left.chunks c.in_ok-parts.parts c.requires.schema refl c.requires.left_cells c.in_ok-parts.ensures.numbers
+    c.in_ok-parts.ensures.parts in
     record {
       valid = c.requires.valid;
       each = overlap_each schema margins.result.items margins.ensures;
       places = overlap_places schema margins.result.items margins.ensures c.requires.valid;
+      rising = parts.in_order;
+      sized = parts.sized;
       all = c.in_ok-parts.ensures.places;
     }
 

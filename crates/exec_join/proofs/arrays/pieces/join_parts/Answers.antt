@@ -11,7 +11,7 @@ use Rattle.exec_join.proofs.arrays.pieces.join_parts.Goals as goal
 
 pub over_pieces-requires-after_bounds : goal.over_pieces-requires-after_bounds
 over_pieces-requires-after_bounds g c κs within =
-    can_join c.args.left.now c.args.right.now c.args.schema.now c.args.margins.now.items c.in_ok-pieces.pieces c.in_ok-pieces.ensures c.requires.schema c.requires.frames c.requires.left_cells c.requires.right_cells c.requires.left_rise c.requires.right_rise
+    can_join c.args.left.now c.args.right.now c.args.schema.now c.args.margins.now.items c.in_ok-pieces.pieces c.in_ok-pieces.ensures c.requires.schema c.requires.frames c.requires.left_cells c.requires.right_cells
 
 pub returns-clause-numbers : goal.returns-clause-numbers
 returns-clause-numbers g c =

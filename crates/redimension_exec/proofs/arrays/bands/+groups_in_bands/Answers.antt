@@ -22,7 +22,7 @@ groups_in_bands-requires t c =
     let split = cut_rows source.dimensions margins half chunks front back (c.half_of_bands-half.ensures.rows margins) c.split_at.ensures.front c.split_at.ensures.back in
     let less : half < length chunks = search rules in (
       omega (arith, c.split_at.ensures.front_len, less, c.decreases),
-      (c.requires.few, (c.requires.plain, front_bands source margins half chunks front back c.requires.bands c.half_of_bands-half.ensures.some less split c.split_at.ensures.front)),
+      (c.requires.few, (c.requires.plain, front_bands source margins half chunks front back c.requires.bands split c.split_at.ensures.front)),
     )
 
 pub groups_in_bands-requires-in-Ok : goal.groups_in_bands-requires-in-Ok
@@ -35,8 +35,8 @@ groups_in_bands-requires-in-Ok t c =
     let back = c.split_at.result.1.now in
     let split = cut_rows source.dimensions margins half chunks front back (c.half_of_bands-half.ensures.rows margins) c.split_at.ensures.front c.split_at.ensures.back in
     let less : half < length chunks = search rules in (
-      omega (arith, c.split_at.ensures.back_len, c.half_of_bands-half.ensures.some, less, c.decreases),
-      (c.requires.few, (c.requires.plain, back_bands source margins half chunks front back c.requires.bands less split c.split_at.ensures.back)),
+      omega (arith, c.split_at.ensures.back_len, c.half_of_bands-half.ensures.some (omega (arith, less)), less, c.decreases),
+      (c.requires.few, (c.requires.plain, back_bands source margins half chunks front back c.requires.bands split c.split_at.ensures.back)),
     )
 
 pub returns-in-Err-clause-groups : goal.returns-in-Err-clause-groups

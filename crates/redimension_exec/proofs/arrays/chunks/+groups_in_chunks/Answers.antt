@@ -15,7 +15,7 @@ groups_in_chunks-requires t c =
     let front = c.split_at.ensures.front in
     let back = c.split_at.ensures.back in (
       omega (arith, c.split_at.ensures.front_len, less, c.decreases),
-      (c.requires.few, (c.requires.plain, front_chunks source margins half chunks c.split_at.result.0.now c.split_at.result.1.now c.requires.bands front back some less)),
+      (c.requires.few, (c.requires.plain, front_chunks source margins half chunks c.split_at.result.0.now c.split_at.result.1.now c.requires.bands front back)),
     )
 
 pub groups_in_chunks-requires-in-Some : goal.groups_in_chunks-requires-in-Some
@@ -29,7 +29,7 @@ groups_in_chunks-requires-in-Some t c =
     let front = c.split_at.ensures.front in
     let back = c.split_at.ensures.back in (
       omega (arith, c.split_at.ensures.back_len, some, c.decreases),
-      (c.requires.few, (c.requires.plain, back_chunks source margins half chunks c.split_at.result.0.now c.split_at.result.1.now c.requires.bands front back less)),
+      (c.requires.few, (c.requires.plain, back_chunks source margins half chunks c.split_at.result.0.now c.split_at.result.1.now c.requires.bands front back)),
     )
 
 pub merge_two-requires : goal.merge_two-requires

@@ -21,10 +21,8 @@ pub groups_of_cores-found-requires-clause-bands : goal.groups_of_cores-found-req
 groups_of_cores-found-requires-clause-bands c =
     let array = c.args.array.now in
     subst (AreBands array.schema array.margins.items) (sym c.as_slice-chunks.ensures) (record {
-      some = c.requires.chunks;
       places = c.requires.cells.placed;
       cores = rise_in_cores array.schema array.margins.items array.chunks c.requires.cells;
-      rise = c.requires.rise;
       counted = c.requires.counted;
     })
 

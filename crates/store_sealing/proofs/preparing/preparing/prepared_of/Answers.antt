@@ -1,5 +1,4 @@
 use Rattle.std.proofs.Common.{◌≡◌, ℕ, false, List, length, map, IfOk, refl, sym, subst}
-use Rattle.afl_outside.proofs.PlainLemmas.{when_ok}
 use Rattle.chunk_map.specs.declared.directory.Directory.{Directory}
 use Rattle.page_chain.specs.declared.slots.slots.slots.Target.{Target}
 use Rattle.store_versions.specs.Rows.{directory_in}
@@ -8,7 +7,7 @@ use Rattle.prepared_commits.specs.Needs.{needs_by, newest_now}
 use Rattle.prepared_commits.specs.Parts.{IsFullFor, IsPreparedAs, IsLeft as IsLeftBy, newest_at}
 use Rattle.version_catalog.specs.Catalogs.{names_in}
 use Rattle.store_sealing.specs.Left.{IsLeft}
-use Rattle.store_sealing.proofs.Parts.{at_left, left_of, newest_rise, newest_same, two_lists}
+use Rattle.store_sealing.proofs.Parts.{at_left, left_of, newest_rise, newest_same, two_lists, when_ok}
 use Rattle.store_sealing.proofs.preparing.preparing.prepared_of.Goals as goal
 
 pub prepared_over-requires-clause-newest : goal.prepared_over-requires-clause-newest

@@ -11,7 +11,7 @@ use Rattle.window_overlap.proofs.arrays.pieces.window_parts.Goals as goal
 
 pub over_pieces-requires-after_bounds : goal.over_pieces-requires-after_bounds
 over_pieces-requires-after_bounds g c κs within =
-    can_have_windows c.args.array.now c.args.reach.now c.args.aggs.now c.args.target.now c.args.margins.now.items c.in_ok-pieces.pieces c.in_ok-pieces.ensures c.requires.frames c.requires.cells c.requires.rise c.requires.reach c.requires.typed c.requires.same
+    can_have_windows c.args.array.now c.args.reach.now c.args.aggs.now c.args.target.now c.args.margins.now.items c.in_ok-pieces.pieces c.in_ok-pieces.ensures c.requires.frames c.requires.cells c.requires.reach c.requires.typed c.requires.same
 
 pub returns-clause-numbers : goal.returns-clause-numbers
 returns-clause-numbers g c =

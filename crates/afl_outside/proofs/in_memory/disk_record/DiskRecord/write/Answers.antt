@@ -1,6 +1,7 @@
-use Rattle.std.proofs.Common.{◌≡◌, ℕ, List, sym, ◌∙◌, ap}
+use Rattle.std.proofs.Common.{◌≡◌, ℕ, List, sym, ◌∙◌, ap, subst}
 use Rattle.afl_outside.specs.Disk.{written}
 use Rattle.afl_outside.specs.Images.{content_after}
+use Rattle.afl_outside.specs.Inner.Overlay.{Overlaid}
 use Rattle.afl_outside.specs.Inner.Records.{Recorded}
 use Rattle.afl_outside.specs.Lemmas.ImageLaws.{content_after_push}
 use Rattle.afl_outside.specs.declared.in_memory.device_call.DeviceCall.{DeviceCall}
@@ -12,18 +13,21 @@ pub invariant_of-self-in-Ok : goal.invariant_of-self-in-Ok
 invariant_of-self-in-Ok c =
     let inside = c.self.inside in
     let at = c.args.at in
-    c.in-Ok.ensures.ok ∙ ap (written at c.args.bytes.now) c.self.invariant ∙ ap (λ (l : List ℕ). written at l (content_after inside.first inside.calls)) (sym c.in_ok-piece.ensures)
-    ∙ sym (ap (content_after inside.first) c.in_ok-push.ensures.ok ∙ content_after_push inside.first inside.calls (Write at c.in_ok-piece.piece))
+    subst (λ (o : Overlaid). o.content ≡ content_after o.first c.push.new.self) (sym c.in-Ok.ensures.ok)
+    (ap (written at c.args.bytes.now) c.self.invariant ∙ ap (λ (l : List ℕ). written at l (content_after inside.bytes.first inside.calls)) (sym c.in_ok-piece.ensures)
+    ∙ sym (ap (content_after inside.bytes.first) c.in_ok-push.ensures.ok ∙ content_after_push inside.bytes.first inside.calls (Write at c.in_ok-piece.piece)))
 
 pub invariant_of-self-in-Err : goal.invariant_of-self-in-Err
 invariant_of-self-in-Err c =
     let inside = c.self.inside in
     let same : c.pop.new.self ≡ inside.calls = popped inside.calls c.push.new.self c.pop.new.self (Write c.args.at c.in_ok-piece.piece) c.pop.result c.in_ok-push.ensures.ok c.pop.ensures in
-    c.in-Err.ensures.err ∙ c.self.invariant ∙ ap (content_after inside.first) (sym same)
+    subst (λ (o : Overlaid). o.content ≡ content_after o.first c.pop.new.self) (sym c.in-Err.ensures.err)
+    (c.self.invariant ∙ ap (content_after inside.bytes.first) (sym same))
 
 pub returns-in-Err-clause-err : goal.returns-in-Err-clause-err
 returns-in-Err-clause-err c =
     let inside = c.self.inside in
     let same : c.pop.new.self ≡ inside.calls = popped inside.calls c.push.new.self c.pop.new.self (Write c.args.at c.in_ok-piece.piece) c.pop.result c.in_ok-push.ensures.ok c.pop.ensures in
-    let made : List DeviceCall → Recorded = λ calls. record { first = inside.first; calls = calls } in
-    ap made same ∙ c.self.view_is
+    let made : List DeviceCall → Recorded = λ calls. record { first = c.write.new.self.first; calls = calls } in
+    let over : Overlaid → Recorded = λ o. record { first = o.first; calls = inside.calls } in
+    ap made same ∙ ap over c.in-Err.ensures.err ∙ c.self.view_is

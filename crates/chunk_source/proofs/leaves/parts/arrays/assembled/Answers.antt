@@ -7,12 +7,12 @@ use Rattle.array_geom.specs.Geometry.{overlaps}
 use Rattle.array_geom.specs.Link.{Is, chunk_rows}
 use Rattle.array_geom.proofs.MarginLaws.{overlap_each, overlap_places}
 use Rattle.logical_plan.specs.Meaning.{whole}
-use Rattle.chunk_source.proofs.AssembledLaws.{are_rows, have_places}
+use Rattle.chunk_source.proofs.AssembledLaws.{are_rows, their_places}
 use Rattle.chunk_source.proofs.leaves.parts.arrays.assembled.Goals as goal
 
 pub rows_in_order-requires : goal.rows_in_order-requires
 rows_in_order-requires c =
-    (have_places c.args.schema.now c.margins_of-margins.result.items c.args.chunks c.margins_of-margins.ensures c.requires.valid c.requires.chunks).all
+    their_places c.args.schema.now c.margins_of-margins.result.items c.args.chunks c.margins_of-margins.ensures c.requires.valid c.requires.chunks
 
 pub assemble-requires-clause-rows : goal.assemble-requires-clause-rows
 assemble-requires-clause-rows c =

@@ -8,7 +8,7 @@ use Rattle.chunk_source.proofs.leaves.parts.arrays.part_array.Goals as goal
 pub returns-then-alone-clause-read : goal.returns-then-alone-clause-read
 returns-then-alone-clause-read c =
     let stand = c.as_they_stand.ensures in
-    all_standing_are_read c.args.schema.now c.args.chunks c.requires.valid c.requires.chunks c.as_they_stand.result stand.schema stand.margins stand.whole stand.chunks
+    all_standing_are_read c.args.schema.now c.args.chunks c.requires.valid c.requires.chunks c.requires.rise c.as_they_stand.result stand.schema stand.margins stand.whole stand.chunks
 
 pub returns-else-alone-clause-read : goal.returns-else-alone-clause-read
 returns-else-alone-clause-read c =

@@ -5,7 +5,7 @@ use Rattle.array_geom.specs.Geometry.{core_meets}
 use Rattle.plan_needs.specs.Wanted.{wanted_of}
 use Rattle.chunk_source.specs.Source.{IsStored, asks, listed}
 use Rattle.chunk_source.proofs.ReadLemmas.{asked_after, asked_all, asked_none, front_after, keeps_on, on_err, reads_still}
-use Rattle.chunk_source.proofs.AssembledLaws.{valid_stored}
+use Rattle.chunk_source.proofs.AssembledLaws.{valid_stored, wanted_rise}
 use Rattle.chunk_source.proofs.ReadLaws.{told_by_calls, wanted_among}
 use Rattle.chunk_source.proofs.leaves.parts.reading.read_part.Goals as goal
 
@@ -17,6 +17,10 @@ read_chunks-requires-clause-listed g c =
 
 pub part_array-requires-clause-chunks : goal.part_array-requires-clause-chunks
 part_array-requires-clause-chunks g c = valid_stored c.args.leaf.now.schema c.as_slice.result.now c.in_ok-chunks.chunks c.in_ok-chunks.ensures.stored
+
+pub part_array-requires-clause-rise : goal.part_array-requires-clause-rise
+part_array-requires-clause-rise g c =
+    wanted_rise c.args.leaf.now c.args.area.now c.in_ok-stored.stored c.as_slice.result.now c.in_ok-chunks.chunks c.in_ok-stored.ensures.rising (c.as_slice.ensures ∙ c.in_ok-wanted.ensures.wanted) c.in_ok-chunks.ensures.stored
 
 pub returns-clause-told : goal.returns-clause-told
 returns-clause-told g c db tells =

@@ -1,0 +1,5 @@
+pub mod BlockLaws
+pub mod PairLaws
+pub mod PullLaws
+pub mod TypedLaws
+pub mod UnpackLaws

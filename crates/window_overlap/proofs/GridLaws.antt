@@ -1,0 +1,183 @@
+-- Boxes and windows as grids.
+use Rattle.std.proofs.Common.{◌≡◌, ℕ, zero, suc, ◌+◌, ◌*◌, ◌-◌, ◌/◌, ◌%◌, ◌<◌, ◌≤◌, ◌^◌, ℤ, pos, negsuc, ◌≤ℤ◌, ◌<ℤ◌, ◌+ℤ◌, ◌-ℤ◌, Bool, true, false, ◌&&◌, List, [], ◌∷◌, ◌++◌, append-nil, append_assoc, length, get_or, map, take, drop, refl, sym, ap, ◌∙◌, subst, arith, IsTrue}
+use Rattle.std.specs.Prelude.{int_le, int_lt, nat_le, unsigned_abs}
+use Rattle.std.proofs.lemmas.Bool.{false≢true}
+use Rattle.std.proofs.lemmas.Int.{ints}
+use Rattle.std.specs.List.{AllByRecursion}
+use Rattle.array_rows.specs.Boxes.{by_pairs, is_between}
+use Rattle.array_rows.specs.Rows.{Coordinate}
+use Rattle.array_geom.specs.declared.grid.Grid.{Grid}
+use Rattle.array_geom.specs.Geometry.{position_in, volume}
+use Rattle.array_geom.specs.Inner.Ranges.{AreLengths, AreLow, IsGrid, IsLow, is_in_grid}
+use Rattle.array_geom.proofs.Fronts.{rest, rest_is}
+use Rattle.array_geom.proofs.PlaceLaws.{above}
+use Rattle.array_geom.proofs.TestLaws.{and_both, and_parts, le_from_test, le_test, lt_from_test, lt_test}
+use Rattle.logical_plan.specs.declared.parts.Reach.{Reach}
+use Rattle.window_overlap.specs.Inner.Dense.{HaveSpans, span, widths, zeros}
+
+-- ---- boxes
+
+pub no_spans : (lo hi : List ℤ) (limit : ℕ) → length lo < 1 → length hi ≡ 0 → 1 ≤ limit → HaveSpans lo hi limit
+no_spans [] [] limit l h some = some
+no_spans [] (y ∷ hi) limit l h some = absurd (omega (arith, h))
+no_spans (x ∷ lo) hi limit l h some = absurd (omega (arith, l))
+
+pub front_spans : (lo hi : List ℤ) (limit wide : ℕ) → 1 ≤ length lo → 1 ≤ length hi → wide ≡ unsigned_abs (get_or hi 0 (pos 0) -ℤ get_or lo 0 (pos 0)) → get_or lo 0 (pos 0) ≤ℤ get_or hi 0 (pos 0) → negsuc (2 ^ 62 - 1) ≤ℤ get_or lo 0 (pos 0) → get_or hi 0 (pos 0) ≤ℤ pos (2 ^ 62)
+    → wide < limit → HaveSpans (rest lo) (rest hi) (limit / (wide + 1)) → HaveSpans lo hi limit
+front_spans [] hi limit wide some other e o l h less more = absurd (omega (arith, some))
+front_spans (x ∷ lo) [] limit wide some other e o l h less more = absurd (omega (arith, other))
+front_spans (x ∷ lo) (y ∷ hi) limit wide some other e o l h less more =
+    let few : span x y ≤ limit = subst (λ (n : ℕ). n + 1 ≤ limit) e (omega (arith, less)) in
+    (o, l, h, few, subst (λ (n : ℕ). HaveSpans lo hi (limit / (n + 1))) e (subst (λ (ls : List ℤ). HaveSpans ls hi (limit / (wide + 1))) (rest_is x lo) (subst (λ (hs : List ℤ). HaveSpans (rest (x ∷ lo)) hs (limit / (wide + 1))) (rest_is y hi) more)))
+
+some_span : (l h : ℤ) → 0 < span l h
+some_span l h = omega arith
+
+bounded : (s x q limit : ℕ) → 0 < s → x ≤ limit / s → s * x ≤ limit
+bounded s x q limit some h =
+    let whole : limit / s * s + limit % s ≡ limit = whole_again limit s some in
+    let more : s * x ≤ s * (limit / s) = times s x (limit / s) h in
+    let same : s * (limit / s) ≡ limit / s * s = turned s (limit / s) in
+    omega (arith, whole, more, same)
+  where
+    whole_again : (p v : ℕ) → 0 < v → p / v * v + p % v ≡ p
+    whole_again p v k = grind arith
+
+    times : (a b c : ℕ) → b ≤ c → a * b ≤ a * c
+    times a b c k = grind arith
+
+    turned : (a b : ℕ) → a * b ≡ b * a
+    turned a b = grind arith
+
+pub spans_volume : (lo hi : List ℤ) (limit : ℕ) → HaveSpans lo hi limit → volume (by_pairs span lo hi) ≤ limit
+spans_volume [] [] limit h = h
+spans_volume [] (y ∷ hi) limit h = absurd h
+spans_volume (x ∷ lo) [] limit h = absurd h
+spans_volume (x ∷ lo) (y ∷ hi) limit h = bounded (span x y) (volume (by_pairs span lo hi)) 0 limit (some_span x y) (spans_volume lo hi (limit / span x y) h.4)
+
+pub spans_low : (lo hi : List ℤ) (limit : ℕ) → HaveSpans lo hi limit → AreLow lo
+spans_low [] [] limit h = tt
+spans_low [] (y ∷ hi) limit h = absurd h
+spans_low (x ∷ lo) [] limit h = absurd h
+spans_low (x ∷ lo) (y ∷ hi) limit h =
+    let order = h.0 in
+    let low = h.1 in
+    let high = h.2 in
+    ((omega (arith, ints, low), omega (arith, ints, order, high)), spans_low lo hi (limit / span x y) h.4)
+
+pub spans_lengths : (lo hi : List ℤ) (limit : ℕ) → HaveSpans lo hi limit → AreLengths (by_pairs span lo hi)
+spans_lengths [] [] limit h = tt
+spans_lengths [] (y ∷ hi) limit h = absurd h
+spans_lengths (x ∷ lo) [] limit h = absurd h
+spans_lengths (x ∷ lo) (y ∷ hi) limit h = (some_span x y, spans_lengths lo hi (limit / span x y) h.4)
+
+pub spans_each : (lo hi : List ℤ) (limit : ℕ) → HaveSpans lo hi limit → length lo ≡ length (by_pairs span lo hi)
+spans_each [] [] limit h = refl
+spans_each [] (y ∷ hi) limit h = absurd h
+spans_each (x ∷ lo) [] limit h = absurd h
+spans_each (x ∷ lo) (y ∷ hi) limit h = ap suc (spans_each lo hi (limit / span x y) h.4)
+
+pub spans_hold : (lo hi : List ℤ) (limit : ℕ) (c : Coordinate) → HaveSpans lo hi limit → is_between lo hi c ≡ true → is_in_grid lo (by_pairs span lo hi) c ≡ true
+spans_hold [] [] limit [] h e = refl
+spans_hold [] [] limit (z ∷ c) h e = absurd (false≢true e)
+spans_hold [] (y ∷ hi) limit c h e = absurd h
+spans_hold (x ∷ lo) [] limit c h e = absurd h
+spans_hold (x ∷ lo) (y ∷ hi) limit [] h e = absurd (false≢true e)
+spans_hold (x ∷ lo) (y ∷ hi) limit (z ∷ c) h e =
+    let t = and_parts (int_le x z && int_le z y) (is_between lo hi c) e in
+    let u = and_parts (int_le x z) (int_le z y) t.0 in
+    let low = le_from_test x z u.0 in
+    let high = le_from_test z y u.1 in
+    let far = above x y h.0 in
+    and_both _ _ (and_both _ _ u.0 (lt_test z (x +ℤ pos (span x y)) (omega (arith, ints, low, high, far)))) (spans_hold lo hi (limit / span x y) c h.4 t.1)
+
+pub spans_grid : (lo hi : List ℤ) (grid : Grid) → grid.low.items ≡ lo → grid.lengths.items ≡ by_pairs span lo hi → HaveSpans lo hi 16777216 → IsGrid grid
+spans_grid lo hi grid e f h =
+    let small = spans_volume lo hi 16777216 h in
+    record {
+      low = subst AreLow (sym e) (spans_low lo hi 16777216 h);
+      lengths = subst AreLengths (sym f) (spans_lengths lo hi 16777216 h);
+      each = ap length e ∙ spans_each lo hi 16777216 h ∙ sym (ap length f);
+      places = subst (λ (ns : List ℕ). volume ns ≤ 2 ^ 48) (sym f) (omega (arith, small));
+    }
+
+-- ---- windows
+
+pub map_pushed : {A B : Type 0} (f : A → B) (xs : List A) (x : A) (old more new : List B) (z : B) → 1 ≤ length xs → x ≡ get_or xs 0 x → more ≡ old ++ z ∷ [] → new ≡ more ++ map f (rest xs) → z ≡ f x → new ≡ old ++ map f xs
+map_pushed f [] x old more new z some e m n is = absurd (omega (arith, some))
+map_pushed {A = A} {B = B} f (y ∷ xs) x old more new z some e m n is =
+    n ∙ ap (λ (l : List B). l ++ map f (rest (y ∷ xs))) m ∙ append_assoc old (z ∷ []) (map f (rest (y ∷ xs)))
+    ∙ ap (λ (l : List A). old ++ z ∷ map f l) (rest_is y xs) ∙ ap (λ (w : B). old ++ w ∷ map f xs) (is ∙ ap f e)
+
+pub nothing_pushed : {A B : Type 0} (f : A → B) (xs : List A) (old : List B) → length xs < 1 → old ≡ old ++ map f xs
+nothing_pushed f [] old l = sym (append-nil old)
+nothing_pushed f (x ∷ xs) old l = absurd (omega (arith, l))
+
+-- ---- lengths that fit others
+
+abbrev pub Fits_in : List ℕ → List ℕ → Type 0
+Fits_in lengths others = (low c : Coordinate) → is_in_grid low lengths c ≡ true → is_in_grid low others c ≡ true
+
+pub none_fit : (lengths others : List ℕ) → length lengths < 1 → length others ≡ 0 → Fits_in lengths others
+none_fit [] [] l e = λ low c h. h
+none_fit [] (m ∷ others) l e = absurd (omega (arith, e))
+none_fit (n ∷ lengths) others l e = absurd (omega (arith, l))
+
+pub front_fits : (lengths others : List ℕ) → 1 ≤ length lengths → 1 ≤ length others → get_or lengths 0 0 ≤ get_or others 0 0 → Fits_in (rest lengths) (rest others) → Fits_in lengths others
+front_fits [] others some other less more = absurd (omega (arith, some))
+front_fits (n ∷ lengths) [] some other less more = absurd (omega (arith, other))
+front_fits (n ∷ lengths) (m ∷ others) some other less more = fit
+  where
+    fit : (low c : Coordinate) → is_in_grid low (n ∷ lengths) c ≡ true → is_in_grid low (m ∷ others) c ≡ true
+    fit [] [] h = absurd (false≢true h)
+    fit [] (x ∷ c) h = absurd (false≢true h)
+    fit (l ∷ low) [] h = absurd (false≢true h)
+    fit (l ∷ low) (x ∷ c) h =
+        let t = and_parts (int_le l x && int_lt x (l +ℤ pos n)) (is_in_grid low lengths c) h in
+        let u = and_parts (int_le l x) (int_lt x (l +ℤ pos n)) t.0 in
+        let below = lt_from_test x (l +ℤ pos n) u.1 in
+        and_both _ _ (and_both _ _ u.0 (lt_test x (l +ℤ pos m) (omega (arith, ints, below, less))))
+        (ap (λ (ns : List ℕ). is_in_grid low ns c) (sym (rest_is m others)) ∙ more low c (ap (λ (ns : List ℕ). is_in_grid low ns c) (rest_is n lengths) ∙ t.1))
+
+-- ---- lists that grow
+
+pub before_at : (xs : List ℕ) (x j : ℕ) → j < length xs → get_or (xs ++ x ∷ []) j 0 ≡ get_or xs j 0
+before_at [] x j l = absurd (omega (arith, l))
+before_at (y ∷ xs) x zero l = refl
+before_at (y ∷ xs) x (suc j) l = before_at xs x j (omega (arith, l))
+
+pub last_at : (xs : List ℕ) (x j : ℕ) → j ≡ length xs → get_or (xs ++ x ∷ []) j 0 ≡ x
+last_at [] x zero e = refl
+last_at [] x (suc j) e = absurd (omega (arith, e))
+last_at (y ∷ xs) x zero e = absurd (omega (arith, e))
+last_at (y ∷ xs) x (suc j) e = last_at xs x j (omega (arith, e))
+
+pub grid_is : (lo hi lows highs : List ℤ) (grid : Grid) → lows ≡ lo → highs ≡ hi → grid.low.items ≡ lo → grid.lengths.items ≡ by_pairs span lows highs → HaveSpans lows highs 16777216 → IsGrid grid
+grid_is lo hi lows highs grid e f g h spans =
+    spans_grid lo hi grid g (h ∙ (λ i. by_pairs span (e i) (f i))) (subst (λ (ls : List ℤ). HaveSpans ls hi 16777216) e (subst (λ (hs : List ℤ). HaveSpans lows hs 16777216) f spans))
+
+pub grid_holds : (lo hi lows highs : List ℤ) (grid : Grid) → lows ≡ lo → highs ≡ hi → grid.low.items ≡ lo → grid.lengths.items ≡ by_pairs span lows highs → HaveSpans lows highs 16777216
+    → (c : Coordinate) → is_between lo hi c ≡ true → is_in_grid grid.low.items grid.lengths.items c ≡ true
+grid_holds lo hi lows highs grid e f g h spans c inside =
+    (λ i. is_in_grid (g i) ((h ∙ (λ j. by_pairs span (e j) (f j))) i) c)
+    ∙ spans_hold lo hi 16777216 c (subst (λ (ls : List ℤ). HaveSpans ls hi 16777216) e (subst (λ (hs : List ℤ). HaveSpans lows hs 16777216) f spans)) inside
+
+low_between : (l h x : ℤ) → l ≤ℤ h → negsuc (2 ^ 62 - 1) ≤ℤ l → h ≤ℤ pos (2 ^ 62) → l ≤ℤ x → x <ℤ (l +ℤ pos (span l h)) → IsLow x
+low_between l h x o low high from upto = let far = above l h o in (omega (arith, ints, low, from), omega (arith, ints, far, upto, high))
+
+spans_low_place : (lo hi : List ℤ) (limit : ℕ) (c : Coordinate) → HaveSpans lo hi limit → is_in_grid lo (by_pairs span lo hi) c ≡ true → AreLow c
+spans_low_place [] [] limit [] h e = tt
+spans_low_place [] [] limit (z ∷ c) h e = absurd (false≢true e)
+spans_low_place [] (y ∷ hi) limit c h e = absurd h
+spans_low_place (x ∷ lo) [] limit c h e = absurd h
+spans_low_place (x ∷ lo) (y ∷ hi) limit [] h e = tt
+spans_low_place (x ∷ lo) (y ∷ hi) limit (z ∷ c) h e =
+    let t = and_parts (int_le x z && int_lt z (x +ℤ pos (span x y))) (is_in_grid lo (by_pairs span lo hi) c) e in
+    let u = and_parts (int_le x z) (int_lt z (x +ℤ pos (span x y))) t.0 in
+    (low_between x y z h.0 h.1 h.2 (le_from_test x z u.0) (lt_from_test z (x +ℤ pos (span x y)) u.1), spans_low_place lo hi (limit / span x y) c h.4 t.1)
+
+pub grid_low : (lo hi lows highs : List ℤ) (grid : Grid) → lows ≡ lo → highs ≡ hi → grid.low.items ≡ lo → grid.lengths.items ≡ by_pairs span lows highs → HaveSpans lows highs 16777216
+    → (c : Coordinate) → is_in_grid grid.low.items grid.lengths.items c ≡ true → AreLow c
+grid_low lo hi lows highs grid e f g h spans c inside =
+    spans_low_place lo hi 16777216 c (subst (λ (ls : List ℤ). HaveSpans ls hi 16777216) e (subst (λ (hs : List ℤ). HaveSpans lows hs 16777216) f spans))
+    ((λ i. is_in_grid (sym g i) (sym (h ∙ (λ j. by_pairs span (e j) (f j))) i) c) ∙ inside)

@@ -1,7 +1,0 @@
-use Rattle.std.proofs.Common.{◌≡◌, take}
-use Rattle.array_rows.specs.Cellwise.{cell_wise}
-use Rattle.logical_plan.specs.Groups.{window_cell}
-use Rattle.window_overlap.proofs.chunks.windows.windows_of_rows.Given as goal
-
-abbrev pub invariant-loop-row : goal.invariant-loop-row
-invariant-loop-row l = l.made ≡ cell_wise (window_cell l.reach l.aggs l.rows) (take l.row-index l.row-items)
