@@ -18,21 +18,15 @@ fn full_beside(values: List<Datum>, right: Cell) -> Result<Cell, Memory>
     }
 }
 
-/// The doubt of the left cell, else that of the right one, else the values of both.
-pub(crate) fn beside(left: Cell, right: Cell) -> Result<Cell, Memory>
+/// Two cells side by side: the doubt of the left one, else that of the right one, else the values
+/// of both.
+pub fn cell_beside(left: Cell, right: Cell) -> Result<Cell, Memory>
     ensures { IfOk result (λ cell. cell ≡ cell_beside left right) }
 {
     match left {
         Cell::Doubt(kind) => Ok(Cell::Doubt(kind)),
         Cell::Full(values) => full_beside(values, right),
     }
-}
-
-/// Two cells side by side: the doubt of the left one, else that of the right one, else the values of both.
-pub fn cell_beside(left: Cell, right: Cell) -> Result<Cell, Memory>
-    ensures { IfOk result (λ cell. cell ≡ cell_beside left right) }
-{
-    beside(left, right)
 }
 
 fn push_copies(values: &mut List<Datum>, more: &[Datum]) -> Result<(), Memory>
@@ -64,7 +58,7 @@ fn copies_beside_full(values: &List<Datum>, right: &Cell) -> Result<Cell, Memory
     }
 }
 
-/// What `beside` makes of copies of the two cells.
+/// What `cell_beside` makes of copies of the two cells.
 pub(crate) fn copies_beside(left: &Cell, right: &Cell) -> Result<Cell, Memory>
     ensures { IfOk result (λ cell. cell ≡ cell_beside left.now right.now) }
 {

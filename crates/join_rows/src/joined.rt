@@ -4,7 +4,7 @@ ghost use Rattle.array_rows.specs.Rows.{IsRising};
 ghost use Rattle.logical_plan.specs.Joins.{join_rows};
 ghost use Rattle.join_rows.specs.Inner.Beside.{IsMove, IsSamePlace};
 
-use crate::beside::beside;
+use crate::beside::cell_beside;
 use cell_values::{List, Memory, Row, row_major};
 use std::cmp::Ordering;
 use std::collections::VecDeque;
@@ -31,7 +31,7 @@ fn move_both(
         if let Some(other) = right.pop_front() {
             made.push(Row {
                 at: row.at,
-                cell: beside(row.cell, other.cell)?,
+                cell: cell_beside(row.cell, other.cell)?,
             })?;
         }
     }
