@@ -8,7 +8,6 @@ use Rattle.cell_values.specs.declared.memory.Memory.{Memory}
 use Rattle.cell_values.specs.declared.schema.Schema.{Schema}
 use Rattle.array_rows.specs.Arrays.{AreRowsOf, Meant}
 use Rattle.array_rows.specs.Boxes.{is_inside}
-use Rattle.array_rows.specs.Rows.{IsRising}
 use Rattle.array_rows.proofs.RowSets.{IsRising-rows_where}
 use Rattle.array_geom.specs.declared.chunk.Chunk.{Chunk}
 use Rattle.array_geom.specs.declared.chunk.ChunkedArray.{ChunkedArray}
@@ -18,7 +17,6 @@ use Rattle.array_parts.specs.Cores.{HaveCells, cores_of, meant_by_cores, unless_
 use Rattle.array_parts.proofs.CoreLaws.{cores_are_rows}
 use Rattle.chunk_cells.specs.Whole.{CoresRise}
 use Rattle.logical_plan.specs.Faults.{if_whole, and_then}
-use Rattle.logical_plan.specs.Joins.{join_rows}
 use Rattle.logical_plan.specs.Meaning.{made_of_two}
 
 pub rise_in_cores : (schema : Schema) (margins : List ℕ) (chunks : List Chunk) → HaveCells schema margins chunks → CoresRise schema.dimensions margins chunks

@@ -3,7 +3,7 @@ ghost use Rattle.std.specs.Prelude.{◌≡◌, ◌+◌, ◌≤◌, ◌++◌, Non
 ghost use Rattle.cell_values.specs.Schemas.{IsValid};
 ghost use Rattle.array_rows.specs.Boxes.{corners, within};
 ghost use Rattle.array_geom.specs.Geometry.{HasFrame, overlaps};
-ghost use Rattle.array_geom.specs.Link.{Is, NumbersRise, numbers};
+ghost use Rattle.array_geom.specs.Link.{Is, numbers};
 ghost use Rattle.array_parts.specs.Cores.{HaveCells, cores_of, meant_by_cores};
 ghost use Rattle.area_cells.specs.Pieces.{IsPartAt};
 ghost use Rattle.logical_plan.specs.Joins.{cross_rows};

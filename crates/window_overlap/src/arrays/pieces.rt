@@ -1,11 +1,10 @@
 //! Windows of an array, chunk by chunk, each from the rows that its windows reach.
-ghost use Rattle.std.specs.Prelude.{◌≡◌, ◌<◌, ◌^◌, ℕ, None, List as Items, length, IsTrue, IfOk, IfSome};
+ghost use Rattle.std.specs.Prelude.{◌≡◌, ◌<◌, ◌^◌, None, IsTrue, IfOk, IfSome};
 ghost use Rattle.std.specs.List.{AllByRecursion};
 ghost use Rattle.cell_values.specs.Schemas.{IsValid};
-ghost use Rattle.cell_values.specs.declared.schema.Dimension.{Dimension};
 ghost use Rattle.array_rows.specs.Boxes.{within};
 ghost use Rattle.array_geom.specs.Geometry.{HasFrame, frame as frame_of, frame_lengths, frame_low, overlaps};
-ghost use Rattle.array_geom.specs.Link.{Is, IsPart, NumbersRise, core_rows, numbers};
+ghost use Rattle.array_geom.specs.Link.{Is, IsPart, numbers};
 ghost use Rattle.array_parts.specs.Cores.{HaveCells, cores_of, meant_by_cores};
 ghost use Rattle.array_parts.specs.Placed.{HasPlaces};
 ghost use Rattle.chunk_cells.specs.Frames.{HasFrames};

@@ -1,4 +1,4 @@
-use Rattle.std.proofs.Common.{List, sym, ap, subst, ◌∙◌}
+use Rattle.std.proofs.Common.{sym, ap, ◌∙◌}
 use Rattle.exec_group.specs.Inner.Parts.{has_parts}
 use Rattle.exec_group.proofs.PiecesPartLaws.{no_parts}
 use Rattle.exec_group.proofs.pieces.aggregates.of_whole.Goals as goal
