@@ -1,7 +1,6 @@
 -- Joins of rising rows, head by head.
 use Rattle.std.proofs.Common.{◌≡◌, ◌<◌, ◌↔◌, IsTrue, Bool, false, cond, List, [], ◌∷◌, ◌++◌, length, drop, Option, Some, refl, sym, ap, ◌∙◌, subst, append_assoc, arith}
 use Rattle.std.proofs.lemmas.List.{append-nil}
-use Rattle.std.specs.Prelude.{slice_index_or}
 use Rattle.std.specs.Option.{option_map}
 use Rattle.std.specs.Ordering.{is_eq, ordering_reverse}
 use Rattle.std.specs.declared.cmp.Ordering.{Ordering}
@@ -78,10 +77,6 @@ both_move made made' left right left' right' x y z l r same at cell m = λ rl rr
           ∙ ap (λ (rows : List Row). made ++ rows) (sym (both_first x left' y right' rx here) ∙ (λ i. join_rows (sym l i) (sym r i)));
     }
 
-pub head : (xs : List Row) (x : Row) → 0 < length xs → x ≡ slice_index_or xs 0 x → xs ≡ x ∷ drop 1 xs
-head [] x l e = absurd (omega arith)
-head (y ∷ ys) x l e = ap (λ (z : Row). z ∷ ys) (sym e)
-
 pub same_place : (left right a b : List Row) (x y : Row) → left ≡ x ∷ a → right ≡ y ∷ b → row_major x.at.items y.at.items ≡ Equal → IsSamePlace left right
 same_place left right a b x y l r e =
     subst (λ (rows : List Row). IsSamePlace rows right) (sym l) (subst (IsSamePlace (x ∷ a)) (sym r) (row_major_exact x.at.items y.at.items e))
@@ -91,9 +86,6 @@ further made made' made'' left left' left'' right right' right'' f g = λ rl rr.
     let first = f rl rr in
     let second = g first.left_rises first.right_rises in
     record { left_rises = second.left_rises; right_rises = second.right_rises; same = second.same ∙ first.same }
-
-pub begun : (made left right : List Row) → made ≡ [] → IsMove [] left right made left right
-begun made left right e = λ rl rr. record { left_rises = rl; right_rises = rr; same = ap (λ (rows : List Row). rows ++ join_rows left right) e }
 
 -- where one of the two is at its end nothing is left to join
 pub at_end : (b : Bool) (made left right left0 right0 : List Row) → b ≡ false → (IsTrue b ↔ (0 < length left) × (0 < length right)) → AreMovedOn [] left0 right0 made left right → made ≡ join_rows left0 right0
