@@ -34,10 +34,12 @@ fn filled_from(
     filled_in_bands(array, target, none)
 }
 
-/// The redimension of an array that is not broken.
-fn of_whole(array: ChunkedArray, target: &Schema) -> Result<ChunkedArray, Memory>
+/// The cells of an array at the coordinates that their values and their own coordinates give the target's dimensions, with the
+/// values of the target's attributes. The first cell in row-major order that has a doubt, a fault among its new numbers, a place
+/// out of the target's bounds or one that is taken breaks the result. What the array's margins hold doesn't matter.
+pub fn redimension_cells(array: ChunkedArray, target: &Schema) -> Result<ChunkedArray, Memory>
     requires whole { array.broken ≡ None }
-    requires cells { HaveCells array.schema array.margins.items array.chunks }
+    requires cells { HasCells array }
     requires valid { IsValid target.now }
     requires typed { IsTrue (redimensions array.schema target.now []) }
     ensures array { IfOk result (λ made. Is made (redimensioned_from target.now [] (meant_by_cores array))) }
@@ -47,21 +49,5 @@ fn of_whole(array: ChunkedArray, target: &Schema) -> Result<ChunkedArray, Memory
     match filled_from(array, target, &none)? {
         Ok(chunks) => told_array(target, &none, chunks),
         Err(broken) => broken_target(target, &broken),
-    }
-}
-
-/// The cells of an array at the coordinates that their values and their own coordinates give the target's dimensions, with the
-/// values of the target's attributes. The first cell in row-major order that has a doubt, a fault among its new numbers, a place
-/// out of the target's bounds or one that is taken breaks the result. What the array's margins hold doesn't matter.
-pub fn redimension_cells(array: ChunkedArray, target: &Schema) -> Result<ChunkedArray, Memory>
-    requires cells { HasCells array }
-    requires valid { IsValid target.now }
-    requires typed { IsTrue (redimensions array.schema target.now []) }
-    ensures array { IfOk result (λ made. Is made (redimensioned_from target.now [] (meant_by_cores array))) }
-    ensures margins { IfOk result (λ made. made.margins.items ≡ overlaps target.now.dimensions) }
-{
-    match &array.broken {
-        Some(broken) => broken_target(target, broken),
-        None => of_whole(array, target),
     }
 }

@@ -6,7 +6,7 @@ use Rattle.logical_plan.specs.Joins.{join_rows}
 use Rattle.exec_join.proofs.MadeLaws.{means_whole, of_cores, stands_for}
 use Rattle.exec_join.proofs.PieceLaws.{joined_parts}
 use Rattle.exec_join.proofs.SideLaws.{join_are_rows}
-use Rattle.exec_join.proofs.arrays.pieces.by_parts.Goals as goal
+use Rattle.exec_join.proofs.arrays.pieces.join.Goals as goal
 
 pub join_parts-requires-clause-frames : goal.join_parts-requires-clause-frames
 join_parts-requires-clause-frames g c κs lives =
@@ -21,8 +21,8 @@ returns-clause-array g c =
     let rows = join_rows (cores_of left) (cores_of right) in
     stands_for c.array_of_parts.result _ _ (means_whole join_rows c.args.schema.now left right (cores_of left) (cores_of right) rows c.requires.left_whole c.requires.right_whole refl refl refl)
     (c.array_of_parts.ensures.array rows
-    (join_are_rows left.schema right.schema c.args.schema.now (cores_of left) (cores_of right) (of_cores left (cores_of left) refl c.requires.left_cells) (of_cores right (cores_of right) refl c.requires.right_cells) c.requires.schema c.requires.valid)
-    (joined_parts left.schema right.schema c.args.schema.now left.margins.items c.margins_of-margins.result.items (cores_of left) (cores_of right) left.chunks c.in_ok-parts.parts c.requires.schema refl c.requires.left_cells c.in_ok-parts.ensures.numbers
+    (join_are_rows left.schema right.schema c.args.schema.now (cores_of left) (cores_of right) (of_cores left (cores_of left) refl (c.requires.left_cells c.requires.left_whole)) (of_cores right (cores_of right) refl (c.requires.right_cells c.requires.right_whole)) c.requires.schema c.requires.valid)
+    (joined_parts left.schema right.schema c.args.schema.now left.margins.items c.margins_of-margins.result.items (cores_of left) (cores_of right) left.chunks c.in_ok-parts.parts c.requires.schema refl (c.requires.left_cells c.requires.left_whole) c.in_ok-parts.ensures.numbers
     c.in_ok-parts.ensures.parts))
 
 pub array_of_parts-requires : goal.array_of_parts-requires
@@ -32,7 +32,7 @@ array_of_parts-requires g c =
     let left = c.args.left in
     let right = c.args.right in
     let parts =
-    joined_parts left.schema right.schema schema left.margins.items margins.result.items (cores_of left) (cores_of right) left.chunks c.in_ok-parts.parts c.requires.schema refl c.requires.left_cells c.in_ok-parts.ensures.numbers
+    joined_parts left.schema right.schema schema left.margins.items margins.result.items (cores_of left) (cores_of right) left.chunks c.in_ok-parts.parts c.requires.schema refl (c.requires.left_cells c.requires.left_whole) c.in_ok-parts.ensures.numbers
     c.in_ok-parts.ensures.parts in
     record {
       valid = c.requires.valid;

@@ -9,7 +9,7 @@ use Rattle.logical_plan.specs.PlanSchema.{window_schema}
 use Rattle.group_rows.proofs.WholeLaws.{means_whole, of_cores, stands_for}
 use Rattle.window_overlap.proofs.ArraysWindowLaws.{windows_are_rows}
 use Rattle.window_overlap.proofs.PieceLaws.{whole_parts}
-use Rattle.window_overlap.proofs.arrays.pieces.by_parts.Goals as goal
+use Rattle.window_overlap.proofs.arrays.pieces.window.Goals as goal
 
 pub window_parts-requires-clause-frames : goal.window_parts-requires-clause-frames
 window_parts-requires-clause-frames g c κs lives =
@@ -28,8 +28,8 @@ returns-clause-array g c =
     stands_for c.array_of_parts.result _ _
     (means_whole (window_schema c.args.aggs.now) (λ s. window_rows c.args.reach.now c.args.aggs.now) array target made c.requires.whole c.requires.target refl)
     (c.array_of_parts.ensures.array made
-    (windows_are_rows array.schema target c.args.reach.now c.args.aggs.now all made (of_cores array all refl c.requires.cells) c.requires.target c.requires.valid c.requires.typed few refl)
-    (whole_parts array.schema target array.margins.items c.margins_of-margins.result.items c.args.reach.now c.args.aggs.now array.chunks c.in_ok-parts.parts same c.requires.cells c.in_ok-parts.ensures.numbers c.in_ok-parts.ensures.parts))
+    (windows_are_rows array.schema target c.args.reach.now c.args.aggs.now all made (of_cores array all refl (c.requires.cells c.requires.whole)) c.requires.target c.requires.valid c.requires.typed few refl)
+    (whole_parts array.schema target array.margins.items c.margins_of-margins.result.items c.args.reach.now c.args.aggs.now array.chunks c.in_ok-parts.parts same (c.requires.cells c.requires.whole) c.in_ok-parts.ensures.numbers c.in_ok-parts.ensures.parts))
 
 pub array_of_parts-requires : goal.array_of_parts-requires
 array_of_parts-requires g c =
@@ -38,7 +38,7 @@ array_of_parts-requires g c =
     let margins = c.margins_of-margins in
     let same : target.dimensions ≡ array.schema.dimensions = ap (λ (s : Schema). s.dimensions) c.requires.target in
     let parts =
-    whole_parts array.schema target array.margins.items margins.result.items c.args.reach.now c.args.aggs.now array.chunks c.in_ok-parts.parts same c.requires.cells c.in_ok-parts.ensures.numbers c.in_ok-parts.ensures.parts in
+    whole_parts array.schema target array.margins.items margins.result.items c.args.reach.now c.args.aggs.now array.chunks c.in_ok-parts.parts same (c.requires.cells c.requires.whole) c.in_ok-parts.ensures.numbers c.in_ok-parts.ensures.parts in
     record {
       valid = c.requires.valid;
       each = overlap_each target margins.result.items margins.ensures;
