@@ -21,9 +21,9 @@ use Rattle.logical_plan.specs.Faults.{if_whole, and_then}
 use Rattle.logical_plan.specs.Meaning.{redimensioned_from}
 use Rattle.logical_plan.specs.Redimension.{landed, origin_of, redimension_rows, value_origin}
 use Rattle.logical_plan.specs.Typing.{redimensions}
-use Rattle.redimension_fill.specs.Inner.Filling.{HoldsLanded}
+use Rattle.redimension_exec.specs.Inner.Filling.{HoldsLanded}
 use Rattle.redimension_exec.specs.Inner.Telling.{CanTell}
-use Rattle.redimension_fill.specs.Inner.Steps.{continued}
+use Rattle.redimension_exec.specs.Inner.Steps.{continued}
 use Rattle.redimension_exec.proofs.LandedLaws.{made_of, carried_are_rows}
 use Rattle.redimension_exec.proofs.SortLaws.{broken_whole, made_apart, sorted_whole}
 

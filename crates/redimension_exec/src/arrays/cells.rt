@@ -6,14 +6,15 @@ ghost use Rattle.array_geom.specs.Geometry.{overlaps};
 ghost use Rattle.array_geom.specs.Link.{Is};
 ghost use Rattle.logical_plan.specs.Meaning.{redimensioned_from};
 ghost use Rattle.logical_plan.specs.Typing.{redimensions};
-ghost use Rattle.redimension_fill.specs.Inner.Filling.{HoldsLanded, no_margins};
+ghost use Rattle.redimension_exec.specs.Inner.Filling.{HoldsLanded, no_margins};
 
 use crate::arrays::building::broken_target;
+use crate::filling::no_margins;
+use crate::moving::filled_in_bands;
 use crate::telling::told_array;
 use area_cells::are_few;
 use array_geom::{Chunk, ChunkedArray};
 use cell_values::{Broken, ChunkAt, Margins, Memory, Schema};
-use redimension_fill::{filled_in_bands, no_margins};
 use std::collections::BTreeMap;
 
 /// The target's chunks with what lands of an array's cores, or the first row that breaks the target, band by band. More cells than
