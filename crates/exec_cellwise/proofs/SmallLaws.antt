@@ -1,5 +1,5 @@
 -- What is found of an expression is its value.
-use Rattle.std.proofs.Common.{◌≡◌, ℕ, ℤ, Bool, true, false, List, ◌∷◌, [], Option, Some, None, refl, sym, ap, ◌∙◌, subst, OnOk, Result, w64, FitsSigned, arith}
+use Rattle.std.proofs.Common.{◌≡◌, ℤ, Bool, true, false, List, Option, refl, sym, ap, ◌∙◌, subst, w64, FitsSigned, arith}
 use Rattle.std.specs.Option.{MatchOption, SomeIff}
 use Rattle.cell_values.specs.declared.datum.Datum.{Datum}
 use Rattle.cell_values.specs.declared.datum.Datum.TheVariants.{Null, Missing, Int, Text, Truth as TruthValue, Bad}

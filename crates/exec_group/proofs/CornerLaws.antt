@@ -1,5 +1,5 @@
 -- A box that has the lowest and the last coordinate of a grid has all of them.
-use Rattle.std.proofs.Common.{◌≡◌, ℕ, ◌+◌, ◌-◌, ◌*◌, ◌/◌, ◌%◌, ◌<◌, ◌≤◌, ℤ, pos, ◌+ℤ◌, ◌≤ℤ◌, Bool, true, false, ◌&&◌, List, [], ◌∷◌, length, map, replicate, refl, sym, ap, ◌∙◌, arith}
+use Rattle.std.proofs.Common.{◌≡◌, ℕ, ◌+◌, ◌-◌, ◌*◌, ◌/◌, ◌%◌, ◌<◌, ℤ, pos, ◌+ℤ◌, ◌≤ℤ◌, Bool, true, ◌&&◌, List, [], ◌∷◌, length, map, replicate, refl, sym, ap, ◌∙◌, arith}
 use Rattle.std.specs.Prelude.{int_le, IfOk, Result, Ok, Err}
 use Rattle.std.specs.List.{AllByRecursion}
 use Rattle.std.proofs.lemmas.Bool.{false≢true}
@@ -8,7 +8,7 @@ use Rattle.cell_values.specs.declared.memory.Memory.{Memory}
 use Rattle.array_rows.specs.Boxes.{is_between}
 use Rattle.array_geom.specs.Geometry.{coordinate_in, volume}
 use Rattle.array_geom.specs.Inner.Ranges.{AreLengths}
-use Rattle.array_geom.proofs.PlaceLaws.{quotient_of, row_below, some}
+use Rattle.array_geom.proofs.PlaceLaws.{quotient_of, some}
 use Rattle.array_geom.proofs.TestLaws.{and_both, and_parts, le_from_test, le_test}
 
 -- ---- the last place

@@ -1,13 +1,10 @@
 -- Cells of two arrays that are joined by their places in one grid.
-use Rattle.std.proofs.Common.{◌≡◌, ℕ, suc, ◌+◌, ◌<◌, ◌≤◌, true, false, ◌⊎◌, inl, inr, List, [], ◌∷◌, ◌++◌, length, get_or, drop, refl, sym, ap, ◌∙◌, subst, arith, length-append}
+use Rattle.std.proofs.Common.{◌≡◌, ℕ, suc, ◌+◌, ◌<◌, ◌≤◌, true, false, ◌⊎◌, inl, inr, List, [], ◌∷◌, ◌++◌, length, get_or, drop, refl, sym, ap, ◌∙◌, subst}
 use Rattle.std.specs.List.{AllByRecursion}
 use Rattle.std.specs.Ordering.{ordering_reverse}
-use Rattle.arrayvec.specs.ArrayVec.{ArrayVec}
-use Rattle.cell_values.specs.declared.datum.Cell.{Cell}
-use Rattle.cell_values.specs.declared.datum.Row.{Row}
 use Rattle.cell_values.specs.declared.schema.Bounds.{Bounds}
 use Rattle.cell_values.specs.declared.schema.Schema.{Schema}
-use Rattle.array_rows.specs.Boxes.{is_inside, within}
+use Rattle.array_rows.specs.Boxes.{is_inside}
 use Rattle.array_rows.specs.Rows.{Coordinate, IsRising, placed, row_major}
 use Rattle.array_rows.proofs.RowsLemmas.{row_major_total, same_coordinate}
 use Rattle.array_geom.specs.declared.chunk.Chunk.{Chunk}

@@ -1,5 +1,5 @@
 -- Windows around the cells of a box, centre by centre.
-use Rattle.std.proofs.Common.{◌≡◌, ℕ, zero, suc, ◌+◌, ◌<◌, ◌≤◌, ℤ, Bool, true, false, cond, ◌&&◌, List, [], ◌∷◌, ◌++◌, append-nil, length, get_or, map, take, Option, Some, None, refl, sym, ap, ◌∙◌, subst, arith}
+use Rattle.std.proofs.Common.{◌≡◌, ℕ, zero, suc, ◌+◌, ◌<◌, ℤ, Bool, true, false, cond, ◌&&◌, List, [], ◌∷◌, ◌++◌, append-nil, length, get_or, map, take, Option, Some, None, refl, sym, ap, ◌∙◌, subst, arith}
 use Rattle.std.specs.Prelude.{slice_index_or}
 use Rattle.std.specs.List.{AllByRecursion}
 use Rattle.std.specs.List.{list_all}
@@ -12,12 +12,10 @@ use Rattle.cell_values.specs.declared.datum.Cell.{Cell}
 use Rattle.cell_values.specs.declared.datum.Cell.TheVariants.{Full, Doubt}
 use Rattle.cell_values.specs.declared.datum.Row.{Row}
 use Rattle.cell_values.specs.declared.schema.Bounds.{Bounds}
-use Rattle.array_rows.specs.declared.columns.forms.Form.{Form}
-use Rattle.array_rows.specs.declared.columns.forms.Form.TheVariants.{Even}
 use Rattle.array_rows.specs.Inner.CellsIn.{cells_in}
 use Rattle.array_rows.specs.Boxes.{is_inside, within}
 use Rattle.array_rows.specs.Cellwise.{cell_wise, put_first}
-use Rattle.array_rows.specs.Rows.{Coordinate, IsRising, placed}
+use Rattle.array_rows.specs.Rows.{Coordinate, placed}
 use Rattle.array_geom.specs.declared.chunk.Chunk.{Chunk}
 use Rattle.array_geom.specs.declared.grid.Grid.{Grid}
 use Rattle.array_geom.specs.Geometry.{position_in}

@@ -1,6 +1,5 @@
 -- Windows of numbers, by their places in a grid.
-use Rattle.std.proofs.Common.{◌≡◌, ℕ, zero, suc, ◌+◌, ◌*◌, ◌-◌, ◌<◌, ◌≤◌, ◌⊎◌, inl, inr, ℤ, pos, ◌≤ℤ◌, ◌<ℤ◌, ◌+ℤ◌, ◌-ℤ◌, Bool, true, false, cond, ◌&&◌, ◌||◌, List, [], ◌∷◌, ◌++◌, length, get_or, set, map, take, Option, Some, None, refl, sym, ap, ◌∙◌, subst, arith}
-use Rattle.std.specs.Prelude.{int_le, int_lt, unsigned_abs, slice_index_or}
+use Rattle.std.proofs.Common.{◌≡◌, ℕ, zero, suc, ◌+◌, ◌<◌, ◌≤◌, ◌⊎◌, inl, inr, ℤ, pos, ◌+ℤ◌, ◌-ℤ◌, Bool, true, false, cond, ◌||◌, List, [], ◌∷◌, ◌++◌, length, get_or, set, take, Option, Some, None, refl, sym, ap, ◌∙◌, subst, arith}
 use Rattle.std.specs.List.{AllByRecursion}
 use Rattle.std.specs.Option.{option_or}
 use Rattle.std.specs.Ordering.{is_eq}
@@ -9,33 +8,29 @@ use Rattle.std.specs.declared.cmp.Ordering.TheVariants.{Less, Equal, Greater}
 use Rattle.std.proofs.lemmas.Bool.{cases_lt, false≢true}
 use Rattle.std.proofs.lemmas.Int.{ints}
 use Rattle.std.proofs.lemmas.List.{get_or-set_same, get_or-set_other, length-set, take_more}
-use Rattle.cell_values.specs.declared.datum.Datum.{Datum}
-use Rattle.cell_values.specs.declared.datum.Datum.TheVariants.{Null, Int}
-use Rattle.cell_values.specs.declared.datum.FaultKind.{FaultKind}
+use Rattle.cell_values.specs.declared.datum.Datum.TheVariants.{Int}
 use Rattle.cell_values.specs.declared.datum.Cell.{Cell}
 use Rattle.cell_values.specs.declared.datum.Cell.TheVariants.{Full, Doubt}
 use Rattle.cell_values.specs.declared.datum.Row.{Row}
-use Rattle.array_rows.specs.Boxes.{by_pairs, is_between, is_inside, within}
+use Rattle.array_rows.specs.Boxes.{by_pairs}
 use Rattle.array_rows.specs.Rows.{Coordinate, IsBefore, IsRising, cell_at, placed, put_row, row_major}
 use Rattle.area_cells.specs.declared.finding.Found.{Found}
 use Rattle.area_cells.specs.Found.{IsFound, found_cell, found_row, found_rows}
 use Rattle.area_cells.proofs.FoundLaws.{rows_append}
 use Rattle.std.specs.Prelude.{replicate}
-use Rattle.array_rows.proofs.RowsLemmas.{row_major_exact, same_coordinate, same_rows}
-use Rattle.array_rows.proofs.RowSets.{IsRising-rows_where, cell_at-put_row, cell_at-within}
+use Rattle.array_rows.proofs.RowsLemmas.{row_major_exact, same_coordinate}
+use Rattle.array_rows.proofs.RowSets.{cell_at-put_row}
 use Rattle.array_geom.specs.declared.grid.Grid.{Grid}
 use Rattle.array_geom.specs.Geometry.{coordinate_in, position_in, volume}
-use Rattle.array_geom.specs.Inner.Ranges.{IsGrid, is_in_grid}
-use Rattle.array_geom.proofs.PlaceLaws.{above, coordinate_again, coordinate_in_grid, position_again, position_below}
-use Rattle.array_geom.proofs.TestLaws.{and_both, and_parts, le_from_test, le_test, lt_from_test, lt_test}
+use Rattle.array_geom.specs.Inner.Ranges.{IsGrid}
+use Rattle.array_geom.proofs.PlaceLaws.{position_again}
 use Rattle.logical_plan.specs.declared.parts.Aggregate.{Aggregate}
 use Rattle.logical_plan.specs.declared.parts.AggFunction.{AggFunction}
 use Rattle.logical_plan.specs.declared.parts.AggFunction.TheVariants.{Sum, Count, CountAll, Min, Max}
-use Rattle.logical_plan.specs.declared.parts.Reach.{Reach}
 use Rattle.logical_plan.specs.Groups.{attribute_of, fault_for, bad_kind, window}
 use Rattle.agg_states.specs.Inner.Summary.{Summary}
 use Rattle.agg_states.specs.Stands.{StandsFor}
-use Rattle.window_overlap.specs.Inner.Dense.{AreNumbers, HasNumber, HasSeen, beyond, place_of, span, spot, visited, widths, zeros}
+use Rattle.window_overlap.specs.Inner.Dense.{AreNumbers, HasNumber, HasSeen, beyond, place_of, spot, visited}
 
 -- ---- a number of a cell
 

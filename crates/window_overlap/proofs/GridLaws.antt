@@ -1,19 +1,17 @@
 -- Boxes and windows as grids.
-use Rattle.std.proofs.Common.{◌≡◌, ℕ, zero, suc, ◌+◌, ◌*◌, ◌-◌, ◌/◌, ◌%◌, ◌<◌, ◌≤◌, ◌^◌, ℤ, pos, negsuc, ◌≤ℤ◌, ◌<ℤ◌, ◌+ℤ◌, ◌-ℤ◌, Bool, true, false, ◌&&◌, List, [], ◌∷◌, ◌++◌, append-nil, append_assoc, length, get_or, map, take, drop, refl, sym, ap, ◌∙◌, subst, arith, IsTrue}
-use Rattle.std.specs.Prelude.{int_le, int_lt, nat_le, unsigned_abs}
+use Rattle.std.proofs.Common.{◌≡◌, ℕ, zero, suc, ◌+◌, ◌*◌, ◌-◌, ◌/◌, ◌%◌, ◌<◌, ◌≤◌, ◌^◌, ℤ, pos, negsuc, ◌≤ℤ◌, ◌<ℤ◌, ◌+ℤ◌, ◌-ℤ◌, true, ◌&&◌, List, [], ◌∷◌, ◌++◌, append-nil, append_assoc, length, get_or, map, refl, sym, ap, ◌∙◌, subst, arith}
+use Rattle.std.specs.Prelude.{int_le, int_lt, unsigned_abs}
 use Rattle.std.proofs.lemmas.Bool.{false≢true}
 use Rattle.std.proofs.lemmas.Int.{ints}
-use Rattle.std.specs.List.{AllByRecursion}
 use Rattle.array_rows.specs.Boxes.{by_pairs, is_between}
 use Rattle.array_rows.specs.Rows.{Coordinate}
 use Rattle.array_geom.specs.declared.grid.Grid.{Grid}
-use Rattle.array_geom.specs.Geometry.{position_in, volume}
+use Rattle.array_geom.specs.Geometry.{volume}
 use Rattle.array_geom.specs.Inner.Ranges.{AreLengths, AreLow, IsGrid, IsLow, is_in_grid}
 use Rattle.array_geom.proofs.Fronts.{rest, rest_is}
 use Rattle.array_geom.proofs.PlaceLaws.{above}
-use Rattle.array_geom.proofs.TestLaws.{and_both, and_parts, le_from_test, le_test, lt_from_test, lt_test}
-use Rattle.logical_plan.specs.declared.parts.Reach.{Reach}
-use Rattle.window_overlap.specs.Inner.Dense.{HaveSpans, span, widths, zeros}
+use Rattle.array_geom.proofs.TestLaws.{and_both, and_parts, le_from_test, lt_from_test, lt_test}
+use Rattle.window_overlap.specs.Inner.Dense.{HaveSpans, span}
 
 -- ---- boxes
 

@@ -1,5 +1,5 @@
 -- What windows by places ask for, in a frame.
-use Rattle.std.proofs.Common.{◌≡◌, ℕ, ◌≤◌, ◌^◌, ℤ, true, List, [], ◌∷◌, length, refl, sym, ap, ◌∙◌, subst}
+use Rattle.std.proofs.Common.{◌≡◌, ℕ, ◌≤◌, ◌^◌, ℤ, true, List, [], ◌∷◌, length, sym, ap, ◌∙◌, subst}
 use Rattle.std.specs.List.{AllByRecursion}
 use Rattle.cell_values.specs.declared.datum.Row.{Row}
 use Rattle.cell_values.specs.declared.schema.Bounds.{Bounds}
@@ -15,8 +15,6 @@ use Rattle.array_geom.specs.Inner.Ranges.{AreLengths, AreLow, IsGrid, is_in_grid
 use Rattle.array_geom.specs.Link.{chunk_rows}
 use Rattle.array_geom.proofs.NearLemmas.{inside_grid, lows_in_range, margins_of, valid_placed}
 use Rattle.array_parts.specs.Cores.{HaveCells}
-use Rattle.area_cells.specs.declared.finding.Found.{Found}
-use Rattle.area_cells.specs.Found.{found_rows}
 use Rattle.area_cells.specs.Inner.Filled.{IsFilled}
 use Rattle.logical_plan.specs.declared.parts.Aggregate.{Aggregate}
 use Rattle.logical_plan.specs.declared.parts.Reach.{Reach}

@@ -1,20 +1,19 @@
 -- The coordinates of a window, place by place.
-use Rattle.std.proofs.Common.{◌≡◌, ℕ, zero, suc, ◌+◌, ◌*◌, ◌-◌, ◌<◌, ◌≤◌, ℤ, pos, ◌≤ℤ◌, ◌<ℤ◌, ◌+ℤ◌, ◌-ℤ◌, Bool, true, false, cond, ◌&&◌, ◌||◌, List, [], ◌∷◌, length, get_or, Option, Some, None, refl, sym, ap, ◌∙◌, subst, arith}
+use Rattle.std.proofs.Common.{◌≡◌, ℕ, zero, suc, ◌+◌, ◌*◌, ◌<◌, ℤ, pos, ◌+ℤ◌, ◌-ℤ◌, Bool, true, false, cond, ◌&&◌, ◌||◌, List, [], ◌∷◌, length, get_or, None, refl, sym, ap, ◌∙◌, subst, arith}
 use Rattle.std.specs.Prelude.{int_le, int_lt, unsigned_abs}
 use Rattle.std.specs.Ordering.{is_eq}
 use Rattle.std.specs.declared.cmp.Ordering.{Ordering}
 use Rattle.std.specs.declared.cmp.Ordering.TheVariants.{Less, Equal, Greater}
 use Rattle.std.proofs.lemmas.Bool.{false≢true}
 use Rattle.std.proofs.lemmas.Int.{ints}
-use Rattle.cell_values.specs.declared.datum.Cell.{Cell}
 use Rattle.cell_values.specs.declared.datum.Row.{Row}
 use Rattle.cell_values.specs.declared.schema.Bounds.{Bounds}
-use Rattle.array_rows.specs.Boxes.{by_pairs, is_between, is_inside, within}
+use Rattle.array_rows.specs.Boxes.{by_pairs, is_inside, within}
 use Rattle.array_rows.specs.Rows.{Coordinate, IsRising, cell_at, row_major}
 use Rattle.array_rows.proofs.RowsLemmas.{row_major_exact, same_rows}
 use Rattle.array_rows.proofs.RowSets.{IsRising-rows_where, cell_at-within}
 use Rattle.array_geom.specs.declared.grid.Grid.{Grid}
-use Rattle.array_geom.specs.Geometry.{coordinate_in, position_in, volume}
+use Rattle.array_geom.specs.Geometry.{position_in, volume}
 use Rattle.array_geom.specs.Inner.Ranges.{IsGrid, is_in_grid}
 use Rattle.array_geom.proofs.PlaceLaws.{above, coordinate_again, coordinate_in_grid, position_below}
 use Rattle.array_geom.proofs.TestLaws.{and_both, and_parts, le_from_test, le_test, lt_from_test, lt_test}
@@ -23,7 +22,7 @@ use Rattle.logical_plan.specs.declared.parts.Reach.{Reach}
 use Rattle.logical_plan.specs.Groups.{window}
 use Rattle.agg_states.specs.Inner.Summary.{Summary}
 use Rattle.agg_states.specs.Stands.{StandsFor}
-use Rattle.window_overlap.specs.Inner.Dense.{AreNumbers, AreOffsets, HasSeen, IsSet, beyond, corner_of, place_of, span, spot, visited, widths, zeros}
+use Rattle.window_overlap.specs.Inner.Dense.{AreOffsets, HasSeen, IsSet, beyond, corner_of, place_of, span, spot, visited, widths, zeros}
 use Rattle.window_overlap.proofs.DenseLaws.{is_visited, minus}
 use Rattle.window_overlap.proofs.PartLaws.{on_side, side}
 

@@ -7,7 +7,7 @@ use Rattle.cell_values.specs.declared.datum.Cell.TheVariants.{Full, Doubt}
 use Rattle.cell_values.specs.declared.datum.Row.{Row}
 use Rattle.cell_values.specs.declared.schema.Bounds.{Bounds}
 use Rattle.array_rows.specs.Boxes.{by_pairs, is_inside}
-use Rattle.array_rows.specs.Rows.{Coordinate, IsRising, cell_at, row_major}
+use Rattle.array_rows.specs.Rows.{Coordinate, cell_at, row_major}
 use Rattle.array_geom.specs.declared.grid.Grid.{Grid}
 use Rattle.array_geom.specs.Geometry.{coordinate_in, position_in, volume}
 use Rattle.array_geom.specs.Inner.Ranges.{AreLow, IsGrid, is_in_grid}

@@ -1,4 +1,4 @@
-use Rattle.std.proofs.Common.{◌≡◌, ap, ◌∙◌, replicate, true, List, length}
+use Rattle.std.proofs.Common.{ap, ◌∙◌, replicate, true}
 use Rattle.exec_group.proofs.parts.columns.all_inside.Goals as goal
 
 pub returns : goal.returns

@@ -4,7 +4,7 @@ use Rattle.std.specs.List.{AllByRecursion}
 use Rattle.std.specs.Prelude.{IfOk, IsTrue}
 use Rattle.cell_values.specs.declared.datum.Row.{Row}
 use Rattle.array_rows.specs.Boxes.{bounds_of, is_inside, within}
-use Rattle.array_rows.specs.Rows.{Coordinate, IsRising}
+use Rattle.array_rows.specs.Rows.{IsRising}
 use Rattle.array_geom.specs.Geometry.{coordinate_in, core, frame_low, frame_lengths, volume}
 use Rattle.array_geom.specs.Link.{chunk_rows, rows_in}
 use Rattle.group_rows.specs.Grouped.{AreGroupsOf}

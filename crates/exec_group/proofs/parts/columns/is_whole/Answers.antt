@@ -1,4 +1,4 @@
-use Rattle.std.proofs.Common.{◌≡◌, ℤ, ◌+◌, ◌-◌, ◌<◌, true, List, sym, ◌∙◌, subst, arith}
+use Rattle.std.proofs.Common.{◌≡◌, ℤ, ◌-◌, ◌<◌, true, List, sym, ◌∙◌, subst, arith}
 use Rattle.array_rows.specs.Boxes.{is_between, is_inside}
 use Rattle.array_geom.specs.Geometry.{volume}
 use Rattle.array_geom.proofs.PlaceLaws.{some}

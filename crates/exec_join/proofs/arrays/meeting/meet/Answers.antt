@@ -1,4 +1,4 @@
-use Rattle.std.proofs.Common.{◌≡◌, ◌≤◌, ◌⊎◌, inl, inr, length, sym, subst, List, arith}
+use Rattle.std.proofs.Common.{◌≤◌, ◌⊎◌, inl, inr, length, sym, subst, List, arith}
 use Rattle.array_rows.specs.Rows.{IsRising}
 use Rattle.area_cells.specs.declared.finding.Found.{Found}
 use Rattle.area_cells.specs.Found.{found_rows}

@@ -1,9 +1,6 @@
-use Rattle.std.proofs.Common.{◌≡◌, List, refl, sym, ap, ◌∙◌, subst}
-use Rattle.cell_values.specs.declared.schema.Bounds.{Bounds}
+use Rattle.std.proofs.Common.{List, refl, ap, ◌∙◌}
 use Rattle.array_rows.specs.Boxes.{within}
-use Rattle.array_rows.specs.Rows.{IsRising}
 use Rattle.array_geom.specs.declared.chunk.Chunk.{Chunk}
-use Rattle.array_geom.specs.Geometry.{frame}
 use Rattle.array_geom.specs.Link.{core_rows}
 use Rattle.array_parts.specs.Cores.{cores_of}
 use Rattle.logical_plan.specs.Joins.{join_rows}

@@ -1,4 +1,4 @@
-use Rattle.std.proofs.Common.{◌≡◌, ℕ, List, length, refl, sym, ap, ◌∙◌, subst}
+use Rattle.std.proofs.Common.{ℕ, List, length, refl, sym, ap, ◌∙◌, subst}
 use Rattle.cell_values.specs.declared.schema.Dimension.{Dimension}
 use Rattle.array_rows.specs.Rows.{IsRising}
 use Rattle.array_geom.specs.Inner.Ranges.{is_in_grid}
@@ -6,7 +6,7 @@ use Rattle.array_parts.specs.Cores.{cores_of}
 use Rattle.group_rows.proofs.WholeLaws.{of_cores}
 use Rattle.area_cells.specs.declared.finding.Found.{Found}
 use Rattle.area_cells.specs.Found.{found_rows}
-use Rattle.window_overlap.specs.Inner.Dense.{AreOffsets, IsSet}
+use Rattle.window_overlap.specs.Inner.Dense.{AreOffsets}
 use Rattle.window_overlap.specs.Inner.Reached.{reached}
 use Rattle.window_overlap.proofs.ArraysWindowLaws.{can_aggregate, short_windows}
 use Rattle.window_overlap.proofs.ChunksWindowLaws.{can_within, rising_within}

@@ -1,4 +1,4 @@
-use Rattle.std.proofs.Common.{◌≡◌, ◌∷◌, [], ℤ, Bool, true, List, length, refl, sym, ap, ◌∙◌, subst}
+use Rattle.std.proofs.Common.{◌∷◌, [], ℤ, Bool, true, List, length, refl, sym, ap, ◌∙◌, subst}
 use Rattle.array_rows.specs.Boxes.{within}
 use Rattle.array_geom.proofs.TestLaws.{and_parts}
 use Rattle.area_cells.specs.Found.{found_rows}

@@ -1,6 +1,5 @@
-use Rattle.std.proofs.Common.{◌≡◌, ◌∙◌, sym, ap, subst, length, arith}
+use Rattle.std.proofs.Common.{◌∙◌, ap, arith}
 use Rattle.array_rows.specs.Boxes.{within}
-use Rattle.array_rows.specs.Rows.{Coordinate}
 use Rattle.array_geom.specs.Geometry.{position_in}
 use Rattle.array_geom.specs.Inner.Ranges.{is_in_grid}
 use Rattle.cell_values.specs.declared.schema.Bounds.{Bounds}

@@ -1,4 +1,4 @@
-use Rattle.std.proofs.Common.{ap, sym, ◌∙◌, subst, arith}
+use Rattle.std.proofs.Common.{ap, ◌∙◌, arith}
 use Rattle.array_geom.specs.Inner.Ranges.{is_in_grid}
 use Rattle.array_geom.proofs.PlaceLaws.{coordinate_in_grid}
 use Rattle.window_overlap.proofs.dense.grids.offsets.Goals as goal

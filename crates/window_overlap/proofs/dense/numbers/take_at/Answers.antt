@@ -1,4 +1,4 @@
-use Rattle.std.proofs.Common.{ℕ, ◌+◌, pos, get_or, rules, refl, sym, ap, ◌∙◌, subst, add-one}
+use Rattle.std.proofs.Common.{ℕ, pos, get_or, rules, refl, sym, ap, ◌∙◌, subst, add-one}
 use Rattle.std.proofs.lemmas.Int.{to_z-of_z}
 use mir.Val.{SFits}
 use mir.Syntax.{w64}
