@@ -10,4 +10,5 @@ pub mod Serves
 pub mod Told
 mod TracesWorked
 pub mod Tracing
+pub mod Unchanged
 pub mod Written

@@ -3,6 +3,7 @@
 mod changing;
 mod input;
 mod target;
+mod unchanged;
 mod versions;
 mod wanted;
 

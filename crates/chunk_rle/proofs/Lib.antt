@@ -4,6 +4,7 @@ pub use Rattle.array_geom.proofs.NumberLaws
 pub mod ChunkLaws
 pub mod ExampleLaws
 pub mod FieldReads
+pub mod NumberRuns
 pub mod PayloadLaws
 pub mod PlaceLemmas
 pub mod PositionLaws
@@ -14,6 +15,7 @@ pub mod StoredLaws
 pub mod Telling
 pub mod Tested
 pub mod ValueLaws
+pub mod ValuedLaws
 pub mod WholeFrames
 pub mod WithinLaws
 mod Worked

@@ -10,6 +10,7 @@ ghost use Rattle.chunk_rle.specs.Chunks.{spelling, all_values, chunk_of, chunk_p
 ghost use Rattle.chunk_rle.specs.Decoding.{Answers, IsWithin, Told};
 ghost use Rattle.chunk_rle.specs.Frames.{frame_in, frame_of};
 ghost use Rattle.chunk_rle.specs.Inner.Ready.{IsReady};
+ghost use Rattle.chunk_rle.specs.Inner.Valued.{valued_payload};
 ghost use Rattle.chunk_rle.specs.Longest.{positions_of};
 ghost use Rattle.chunk_rle.specs.RunChunks.{cells_of, runs_of, AreRunsOf};
 ghost use Rattle.chunk_rle.specs.Spelling.{spell_runs};
@@ -17,11 +18,13 @@ ghost use Rattle.chunk_rle.specs.Stored.{IsStored};
 ghost use Rattle.chunk_rle.specs.Table.{payload};
 ghost use Rattle.chunk_rle.specs.declared.runs.RunChunk.{RunChunk as ARunChunk};
 
-use crate::expanding::chunk_of_runs;
+use crate::columns::columns_values;
+use crate::expanding::chunk_of_values;
 use crate::places::{Places, places_of};
-use crate::reading::payload;
-use crate::runs::{ChunkRuns, RunChunk, numbered};
-use array_geom::{Attribute, Chunk, ChunkAt, Memory, Schema};
+use crate::reading::{payload, position_runs};
+use crate::runs::{ChunkRuns, PosRun, RunChunk, numbered};
+use array_geom::{Attribute, Chunk, ChunkAt, List, Memory, Schema};
+use array_rows::Column as Values;
 use file_items::Stop;
 use std::alloc::Global;
 
@@ -45,6 +48,31 @@ fn told(bytes: &[u8], stop: Stop) -> BadPayload
     }
 }
 
+/// The runs of positions of a payload and the values of its columns, and nothing after them.
+fn payload_values(
+    alloc: Global,
+    places: &Places,
+    attributes: &[Attribute],
+    bytes: &[u8],
+) -> Result<(List<PosRun>, Vec<Values>), Stop>
+    requires { IsReady places.now }
+    ensures { IsRead (λ x. (x.0, x.1.items)) result (valued_payload (payload (frame_in places.now) attributes.now bytes.now)) }
+{
+    match position_runs(alloc, places, bytes) {
+        Ok((positions, n, rest)) => match columns_values(alloc, attributes, n, rest) {
+            Ok((columns, rest)) => {
+                if rest.is_empty() {
+                    Ok((positions, columns))
+                } else {
+                    Err(Stop::Left(rest.len()))
+                }
+            }
+            Err(stop) => Err(stop),
+        },
+        Err(stop) => Err(stop),
+    }
+}
+
 fn chunk_at(
     alloc: Global,
     places: &Places,
@@ -55,11 +83,13 @@ fn chunk_at(
     requires { IsReady places.now }
     ensures { IsRead (λ x. x) result (chunk_payload (frame_in places.now) at.now attributes.now bytes.now) }
 {
-    match payload(alloc, places, attributes, bytes) {
-        Ok(runs) => match chunk_of_runs(alloc, &numbered(at, runs)) {
-            Ok(chunk) => Ok(chunk),
-            Err(Memory) => Err(Stop::Memory),
-        },
+    match payload_values(alloc, places, attributes, bytes) {
+        Ok((positions, columns)) => {
+            match chunk_of_values(alloc, at, positions.as_slice(), columns) {
+                Ok(chunk) => Ok(chunk),
+                Err(Memory) => Err(Stop::Memory),
+            }
+        }
         Err(stop) => Err(stop),
     }
 }

@@ -2,9 +2,11 @@
 #![tactic(auto)]
 
 mod collecting;
+mod columns;
 mod decoding;
 mod encoding;
 mod expanding;
+mod numbers;
 mod places;
 mod reading;
 mod runs;

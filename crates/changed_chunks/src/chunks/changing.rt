@@ -12,17 +12,22 @@ ghost use Rattle.plan_changes.specs.Kept.{MeansArray};
 ghost use Rattle.plan_changes.specs.declared.change.Change.TheVariants.{Store, Insert};
 ghost use Rattle.changed_chunks.specs.Changing.{AsksOnly, CanChange, CanStore, IsAnswerOver, IsToldOf};
 ghost use Rattle.changed_chunks.specs.Changing.{asked_for, asked_of_all, asked_or_fault, asked_with};
-ghost use Rattle.changed_chunks.specs.Inner.Input.{IsFound, MayBeStored};
+ghost use Rattle.cell_values.specs.Schemas.{IsValid};
+ghost use Rattle.array_geom.specs.Link.{Is};
+ghost use Rattle.array_parts.specs.Cores.{HasCells};
+ghost use Rattle.logical_plan.specs.Meaning.{meaning};
+ghost use Rattle.changed_chunks.specs.Inner.Input.{IsFound, MayBeStored, TakesRows};
 ghost use Rattle.changed_chunks.specs.Targets.{IsTargetAsking, asking_over, asking_put};
 
-use crate::chunks::input::input_of;
+use crate::chunks::input::{input_of, rows_in};
 use crate::chunks::target::put_over_target;
-use crate::chunks::versions::{all_of, stored_array};
+use crate::chunks::unchanged::is_storable;
+use crate::chunks::versions::{all_of, stored_array, whole_version};
 use crate::traces::Asking;
 use afl_outside::Gate;
-use array_geom::Changed;
+use array_geom::{Changed, ChunkedArray};
 use cell_values::{Broken, List, Memory, Row, Schema};
-use chunk_exec::ExecFault;
+use chunk_exec::{ExecFault, execute};
 use chunk_source::ChunkSource;
 use logical_plan::{Leaf, Plan};
 use plan_changes::Change;
@@ -44,6 +49,22 @@ fn stored_chunks(
         Ok(input) => Ok(Ok(all_of(stored_array(schema, input)?))),
         Err(broken) => Ok(Err(broken)),
     }
+}
+
+/// All chunks of a plan's array as they are stored under a schema, or where and why it is broken, or else its first fault.
+fn chunks_of(array: ChunkedArray, schema: &Schema) -> Result<Result<Changed, Broken>, Memory>
+    requires cells { HasCells array }
+    requires valid { IsValid schema.now }
+    requires takes { TakesRows schema.now array.schema }
+    ensures is_of { IfOk result (λ made. IfOk made (IsOf schema.now true)) }
+    ensures valid { IfOk result (λ made. IfOk made AreValid) }
+    ensures told { IfOk result (λ made. (db : Database) (name : Items ℕ) (plan : Query) → Is array (meaning (rows_of db) plan) → MeansArray db plan
+        → IsAnswerOver db (Store name schema.now plan) made) }
+{
+    if is_storable(&array, schema) {
+        return Ok(Ok(whole_version(array)));
+    }
+    stored_chunks(schema, rows_in(array, schema)?)
 }
 
 /// The chunks that a store writes.
@@ -70,8 +91,13 @@ fn stored<S: ChunkSource, R: Threads + Sync, G: Gate>(
     ensures cause { Answers (S.state source.old) (S.state source.new) result }
     ensures start { S.start source.new ≡ S.start source.old }
 {
-    let found = input_of(rt, alloc, plan, schema, source, workers, session, gate)?;
-    Ok(stored_chunks(schema, found)?)
+    match execute(rt, alloc, plan, source, workers, session, gate) {
+        Ok(array) => match chunks_of(array, schema) {
+            Ok(made) => Ok(made),
+            Err(Memory) => Err(ExecFault::Memory),
+        },
+        Err(fault) => Err(fault),
+    }
 }
 
 /// The chunks that an insert writes over its target. How many chunks of the target are asked for, and of how many, is put into `asking`.

@@ -72,7 +72,10 @@ fn broken_of(array: &ChunkedArray) -> Option<Broken>
 }
 
 /// The rows of an array as they are stored under a schema, or where and why it is broken, or else its first fault.
-fn rows_in(array: ChunkedArray, schema: &Schema) -> Result<Result<List<Row>, Broken>, Memory>
+pub(crate) fn rows_in(
+    array: ChunkedArray,
+    schema: &Schema,
+) -> Result<Result<List<Row>, Broken>, Memory>
     requires cells { HasCells array }
     requires valid { IsValid schema.now }
     requires takes { TakesRows schema.now array.schema }

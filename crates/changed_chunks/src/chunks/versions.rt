@@ -1,5 +1,5 @@
 //! Versions: the chunks of rows, and those that are written where rows are put over stored ones.
-ghost use Rattle.std.specs.Prelude.{◌≡◌, ◌++◌, List as Items, filter, IfOk};
+ghost use Rattle.std.specs.Prelude.{◌≡◌, ◌++◌, List as Items, true, filter, IfOk};
 ghost use Rattle.cell_values.specs.declared.datum.Row.{Row as Placed};
 ghost use Rattle.array_rows.specs.Boxes.{within};
 ghost use Rattle.array_rows.specs.Rows.{put_all};
@@ -26,10 +26,9 @@ pub(crate) fn stored_array(schema: &Schema, rows: List<Row>) -> Result<ChunkedAr
     assemble(schema, &margins_of(schema), rows.as_slice())
 }
 
-/// All chunks of an array.
-pub(crate) fn all_of(array: ChunkedArray) -> Changed
-    requires { CanBeStored array }
-    ensures { IsStoreOf array.schema (cores_of array) result }
+/// The chunks of an array as a whole version.
+pub(crate) fn whole_version(array: ChunkedArray) -> Changed
+    ensures { result ≡ record { schema = array.schema; whole = true; chunks = array.chunks } }
 {
     let ChunkedArray {
         schema,
@@ -42,6 +41,14 @@ pub(crate) fn all_of(array: ChunkedArray) -> Changed
         whole: true,
         chunks,
     }
+}
+
+/// All chunks of an array of rows that may be stored.
+pub(crate) fn all_of(array: ChunkedArray) -> Changed
+    requires { CanBeStored array }
+    ensures { IsStoreOf array.schema (cores_of array) result }
+{
+    whole_version(array)
 }
 
 /// The chunks of both, those of the first list copied.

@@ -1,44 +1,54 @@
-use Rattle.chunk_source.proofs.ReadLemmas.{asked_all, on_err}
+use Rattle.std.proofs.Common.{sym, subst}
+use Rattle.plan_changes.specs.Databases.{rows_of}
+use Rattle.chunk_source.proofs.ReadLemmas.{asked_all}
+use Rattle.changed_chunks.specs.Inner.Input.{TakesRows}
+use Rattle.changed_chunks.proofs.Rows.{takes_rows, means_array}
 use Rattle.changed_chunks.proofs.chunks.changing.stored.Goals as goal
 
-pub stored_chunks-requires : goal.stored_chunks-requires
-stored_chunks-requires g c = c.in_ok-found.ensures.may
+pub chunks_of-requires-clause-takes : goal.chunks_of-requires-clause-takes
+chunks_of-requires-clause-takes g c =
+    subst (TakesRows c.args.schema.now) (sym c.in-Ok.ensures.schema) (takes_rows (g.S.ChunkSource.state c.args.source.now) c.args.schema.now c.args.plan.now c.requires.can)
 
-pub returns-in_err-found-clause-front : goal.returns-in_err-found-clause-front
-returns-in_err-found-clause-front g c = on_err _ _ c.in_err-found.ensures.front
+pub returns-in-Ok-chunks_of-clause-is_of : goal.returns-in-Ok-chunks_of-clause-is_of
+returns-in-Ok-chunks_of-clause-is_of g c = c.in-Ok-chunks_of.ensures.is_of
 
-pub returns-in_err-found-clause-kept : goal.returns-in_err-found-clause-kept
-returns-in_err-found-clause-kept g c = c.in_err-found.ensures.kept
+pub returns-in-Ok-chunks_of-clause-valid : goal.returns-in-Ok-chunks_of-clause-valid
+returns-in-Ok-chunks_of-clause-valid g c = c.in-Ok-chunks_of.ensures.valid
 
-pub returns-in_err-found-clause-start : goal.returns-in_err-found-clause-start
-returns-in_err-found-clause-start g c = c.in_err-found.ensures.start
+pub returns-in-Ok-chunks_of-clause-told : goal.returns-in-Ok-chunks_of-clause-told
+returns-in-Ok-chunks_of-clause-told g c db tells name =
+    let of = c.in-Ok.ensures.means (rows_of db) tells in
+    c.in-Ok-chunks_of.ensures.told db name c.args.plan.now of (means_array db c.args.plan.now c.in-Ok.array c.in-Ok.ensures.schema of)
 
-pub returns-in_err-stored_chunks-clause-front : goal.returns-in_err-stored_chunks-clause-front
-returns-in_err-stored_chunks-clause-front g c = on_err _ _ (asked_all _ _ _ c.in_ok-found.ensures.asked)
+pub returns-in-Ok-chunks_of-clause-asked : goal.returns-in-Ok-chunks_of-clause-asked
+returns-in-Ok-chunks_of-clause-asked g c = c.in-Ok.ensures.asked
 
-pub returns-in_err-stored_chunks-clause-kept : goal.returns-in_err-stored_chunks-clause-kept
-returns-in_err-stored_chunks-clause-kept g c = c.in_ok-found.ensures.kept
+pub returns-in-Ok-chunks_of-clause-kept : goal.returns-in-Ok-chunks_of-clause-kept
+returns-in-Ok-chunks_of-clause-kept g c = c.in-Ok.ensures.kept
 
-pub returns-in_err-stored_chunks-clause-start : goal.returns-in_err-stored_chunks-clause-start
-returns-in_err-stored_chunks-clause-start g c = c.in_ok-found.ensures.start
+pub returns-in-Ok-chunks_of-clause-cause : goal.returns-in-Ok-chunks_of-clause-cause
+returns-in-Ok-chunks_of-clause-cause g c = c.in-Ok.ensures.cause
 
-pub returns-clause-is_of : goal.returns-clause-is_of
-returns-clause-is_of g c = c.in_ok-stored_chunks.ensures.is_of
+pub returns-in-Ok-chunks_of-clause-start : goal.returns-in-Ok-chunks_of-clause-start
+returns-in-Ok-chunks_of-clause-start g c = c.in-Ok.ensures.start
 
-pub returns-clause-valid : goal.returns-clause-valid
-returns-clause-valid g c = c.in_ok-stored_chunks.ensures.valid
+pub returns-in-Err-chunks_of-clause-front : goal.returns-in-Err-chunks_of-clause-front
+returns-in-Err-chunks_of-clause-front g c = asked_all _ _ _ c.in-Ok.ensures.asked
 
-pub returns-clause-told : goal.returns-clause-told
-returns-clause-told g c db tells name = c.in_ok-stored_chunks.ensures.told db name c.args.plan.now (c.in_ok-found.ensures.means db tells) (c.in_ok-found.ensures.found db tells)
+pub returns-in-Err-chunks_of-clause-kept : goal.returns-in-Err-chunks_of-clause-kept
+returns-in-Err-chunks_of-clause-kept g c = c.in-Ok.ensures.kept
 
-pub returns-clause-asked : goal.returns-clause-asked
-returns-clause-asked g c = c.in_ok-found.ensures.asked
+pub returns-in-Err-chunks_of-clause-cause : goal.returns-in-Err-chunks_of-clause-cause
+returns-in-Err-chunks_of-clause-cause g c = c.in-Ok.ensures.cause
 
-pub returns-clause-kept : goal.returns-clause-kept
-returns-clause-kept g c = c.in_ok-found.ensures.kept
+pub returns-in-Err-chunks_of-clause-start : goal.returns-in-Err-chunks_of-clause-start
+returns-in-Err-chunks_of-clause-start g c = c.in-Ok.ensures.start
 
-pub returns-clause-cause : goal.returns-clause-cause
-returns-clause-cause g c = c.in_ok-found.ensures.cause
+pub returns-in-Err-clause-front : goal.returns-in-Err-clause-front
+returns-in-Err-clause-front g c = c.in-Err.ensures.front
 
-pub returns-clause-start : goal.returns-clause-start
-returns-clause-start g c = c.in_ok-found.ensures.start
+pub returns-in-Err-clause-cause : goal.returns-in-Err-clause-cause
+returns-in-Err-clause-cause g c = c.in-Err.ensures.cause
+
+pub returns-in-Err-clause-start : goal.returns-in-Err-clause-start
+returns-in-Err-clause-start g c = c.in-Err.ensures.start

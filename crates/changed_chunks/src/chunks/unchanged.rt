@@ -1,0 +1,123 @@
+//! Arrays whose chunks are stored as they are: no row is made of a cell.
+ghost use Rattle.std.specs.Prelude.{◌≡◌, ◌<◌, None, length, map, IsTrue};
+ghost use Rattle.std.specs.List.{AllByRecursion};
+ghost use Rattle.array_rows.specs.Inner.CellsIn.{value_in};
+ghost use Rattle.array_parts.specs.Cores.{HasCells};
+ghost use Rattle.array_parts.specs.Placed.{HasPlaces};
+ghost use Rattle.cell_values.specs.Schemas.{IsValid};
+ghost use Rattle.cell_values.specs.declared.datum.Datum.TheVariants.{Int};
+ghost use Rattle.changed_chunks.specs.Inner.Unchanged.{AreNumbers, IsStorable, StandsAlone};
+
+use array_geom::{Chunk, ChunkedArray, margins_of};
+use array_parts::holds_cell;
+use array_rows::Cells;
+use cell_values::{Attribute, Dimension, Kind, Margins, Schema};
+
+fn same_kind(a: Kind, b: Kind) -> bool
+    ensures { IsTrue result → a ≡ b }
+{
+    matches!(
+        (a, b),
+        (Kind::Int64, Kind::Int64) | (Kind::Str, Kind::Str) | (Kind::Bool, Kind::Bool)
+    )
+}
+
+fn same_attribute(a: &Attribute, b: &Attribute) -> bool
+    ensures { IsTrue result → a.now ≡ b.now }
+{
+    a.name.as_slice() == b.name.as_slice() && same_kind(a.kind, b.kind) && a.nullable == b.nullable
+}
+
+fn same_attributes(a: &[Attribute], b: &[Attribute]) -> bool
+    ensures { IsTrue result → a.now ≡ b.now }
+{
+    match a {
+        [] => b.is_empty(),
+        [x, a @ ..] => match b {
+            [] => false,
+            [y, b @ ..] => same_attribute(x, y) && same_attributes(a, b),
+        },
+    }
+}
+
+fn same_dimension(a: &Dimension, b: &Dimension) -> bool
+    ensures { IsTrue result → a.now ≡ b.now }
+{
+    a.name.as_slice() == b.name.as_slice()
+        && a.lo == b.lo
+        && a.hi == b.hi
+        && a.chunk == b.chunk
+        && a.overlap == b.overlap
+}
+
+fn same_dimensions(a: &[Dimension], b: &[Dimension]) -> bool
+    ensures { IsTrue result → a.now ≡ b.now }
+{
+    match a {
+        [] => b.is_empty(),
+        [x, a @ ..] => match b {
+            [] => false,
+            [y, b @ ..] => same_dimension(x, y) && same_dimensions(a, b),
+        },
+    }
+}
+
+fn same_schema(a: &Schema, b: &Schema) -> bool
+    ensures { IsTrue result → a.now ≡ b.now }
+{
+    same_attributes(a.attributes.as_slice(), b.attributes.as_slice())
+        && same_dimensions(a.dimensions.as_slice(), b.dimensions.as_slice())
+}
+
+fn same_margins(a: &Margins, b: &Margins) -> bool
+    ensures { IsTrue result → a.now.items ≡ b.now.items }
+{
+    a.as_slice() == b.as_slice()
+}
+
+/// Whether the first `count` values of all cells are kept as numbers.
+fn are_numbers(cells: &Cells, count: usize) -> bool
+    ensures { IsTrue result → AreNumbers count cells.now }
+{
+    for place in 0..count {
+        match cells.numbers(place) {
+            Some(_) => {}
+            None => return false,
+        }
+    }
+    true
+}
+
+/// Whether a chunk has a cell in its core and numbers alone.
+fn stands_alone(schema: &Schema, margins: &Margins, chunk: &Chunk) -> bool
+    requires { HasPlaces schema.now margins.now.items chunk.now }
+    ensures { IsTrue result → StandsAlone schema.now margins.now.items chunk.now }
+{
+    holds_cell(schema, margins, chunk) && are_numbers(&chunk.cells, schema.attributes.len())
+}
+
+fn stand_alone(schema: &Schema, margins: &Margins, chunks: &[Chunk]) -> bool
+    requires { AllByRecursion (HasPlaces schema.now margins.now.items) chunks.now }
+    ensures { IsTrue result → AllByRecursion (StandsAlone schema.now margins.now.items) chunks.now }
+{
+    for chunk in chunks {
+        if !stands_alone(schema, margins, chunk) {
+            return false;
+        }
+    }
+    true
+}
+
+/// Whether an array's chunks are those that are stored of it under a schema. Where they are not, or are not known to be, its rows are
+/// put into chunks.
+pub(crate) fn is_storable(array: &ChunkedArray, schema: &Schema) -> bool
+    requires cells { HasCells array.now }
+    requires valid { IsValid schema.now }
+    ensures { IsTrue result → IsStorable schema.now array.now }
+{
+    array.broken.is_none()
+        && !schema.attributes.is_empty()
+        && same_schema(&array.schema, schema)
+        && same_margins(&array.margins, &margins_of(schema))
+        && stand_alone(&array.schema, &array.margins, array.chunks.as_slice())
+}
