@@ -1,0 +1,9 @@
+pub mod Batches
+pub mod Fields
+pub mod Literal
+pub mod Loads
+pub mod Marks
+pub mod Plans
+pub mod Records
+pub mod Rows
+pub mod Scripts
