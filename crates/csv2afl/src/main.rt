@@ -29,6 +29,7 @@ fn command<'a>(alloc: Global) -> Result<Command<'a>, std::alloc::AllocError> {
     let null = Arg::new(alloc, "null")
         .long("null")
         .action(ArgAction::Set)
+        .value_name("WORD")
         .default_value("null")
         .help("What stands for a null, beside an empty field");
     let decimals = Arg::new(alloc, "decimals")
@@ -38,9 +39,10 @@ fn command<'a>(alloc: Global) -> Result<Command<'a>, std::alloc::AllocError> {
         .help("Keeps 21.5 as 2150, where N is 2; may be given for several columns");
     let rows = Arg::new(alloc, "rows")
         .long("rows")
+        .value_name("N")
         .value_parser(value_parser!(u64))
         .default_value("1000000")
-        .help("How many records go into a version of the array, about");
+        .help("How many records go into a version of the array at most");
     Command::new(alloc, "csv2afl")
         .about("Makes a script that puts the records of a CSV file into an array of aflshell")
         .arg(name)?
@@ -95,11 +97,15 @@ fn run(rt: HostRuntime, alloc: Global, matches: &ArgMatches<'_>) -> Result<u64, 
 fn main(rt: HostRuntime) -> ExitCode {
     let alloc = rt.alloc();
     let Ok(words) = std::env::args(&rt) else {
+        let _ = eprintln!(rt; "csv2afl: the words can't be read");
         return ExitCode::from(1);
     };
     let words: Vec<String> = match words.collect(alloc) {
         Ok(words) => words,
-        Err(_) => return ExitCode::from(1),
+        Err(_) => {
+            let _ = eprintln!(rt; "{OUT_OF_MEMORY}");
+            return ExitCode::from(1);
+        }
     };
     let Ok(command) = command(alloc) else {
         let _ = eprintln!(rt; "{OUT_OF_MEMORY}");

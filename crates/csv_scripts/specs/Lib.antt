@@ -1,5 +1,7 @@
 pub mod Batches
+pub mod Conversion
 pub mod Fields
+pub mod Inner
 pub mod Literal
 pub mod Loads
 pub mod Marks
