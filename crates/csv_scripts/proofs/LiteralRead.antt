@@ -1,23 +1,23 @@
 -- What a literal of records spells is read as the records.
-use Rattle.std.proofs.Common.{◌≡◌, ◌⊎◌, inl, inr, ℕ, zero, suc, ◌≤◌, ◌<◌, ◌^◌, pos, negsuc, Bool, true, false, ◌&&◌, List, [], ◌∷◌, ◌++◌, map, length, refl, sym, ap, subst, ◌∙◌, arith, append_assoc, IsTrue}
-use Rattle.std.specs.Prelude.{◌==◌, nat_le, nat_lt, codes}
+use Rattle.std.proofs.Common.{◌≡◌, inl, inr, ℕ, zero, suc, ◌≤◌, ◌<◌, ◌^◌, pos, negsuc, Bool, true, false, List, [], ◌∷◌, ◌++◌, map, length, refl, sym, ap, subst, ◌∙◌, arith, append_assoc}
+use Rattle.std.specs.Prelude.{nat_le}
 use Rattle.std.specs.List.{join_with_byte, list_all}
-use Rattle.std.specs.Fmt.{decimal, signed_decimal}
+use Rattle.std.specs.Fmt.{decimal}
 use Rattle.std.proofs.lemmas.Bool.{and_parts, ne_eqb, leb-true, ltb-true}
 use Rattle.cell_values.specs.Naming.{is_digit}
 use Rattle.cell_values.specs.declared.datum.Datum.{Datum}
 use Rattle.cell_values.specs.declared.datum.Datum.TheVariants.{Null, Missing, Int, Text, Truth, Bad}
-use Rattle.cell_values.specs.Table.{negation, exact, null_of_code}
+use Rattle.cell_values.specs.Table.{negation}
 use Rattle.afl_lexer.specs.declared.token.Word.{Word as AWord}
 use Rattle.afl_lexer.specs.declared.token.Word.TheVariants as word
 use Rattle.afl_lexer.specs.declared.token.TokenKind.TheVariants as kind
 use Rattle.afl_lexer.specs.declared.token.Symbol.{Symbol as ASymbol}
 use Rattle.afl_lexer.specs.declared.token.Symbol.TheVariants.{LeftParen, RightParen, LeftBracket, RightBracket, Comma, Minus}
-use Rattle.afl_lexer.specs.Lexemes.{Lexeme, a_number, a_symbol}
+use Rattle.afl_lexer.specs.Lexemes.{a_number, a_symbol}
 use Rattle.afl_lexer.specs.Tokens.{is_number}
 use Rattle.afl_lexer.specs.Spelling.{Mark, says, spelled, said, EndsBefore, AreApart, lengthens_symbol}
 use Rattle.afl_lexer.proofs.Printing.{lexeme_spelled, read_again}
-use Rattle.result_print.specs.Texts.{listed, spelled as value_bytes}
+use Rattle.result_print.specs.Texts.{spelled as value_bytes}
 use Rattle.check_rules.specs.Literals.{mark_of, SpellsValue, SpellsValues, SpellsElement, SpellsElements, SpellsLiteral, SpellsElementsOf}
 use Rattle.csv_scripts.specs.Literal.{element_bytes, literal_bytes, is_spellable, are_spellable, are_all_spellable, LiteralsAreRead}
 use Rattle.csv_scripts.specs.Marks.{value_marks, values_marks, element_marks, elements_marks, literal_marks}

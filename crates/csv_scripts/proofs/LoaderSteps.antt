@@ -1,14 +1,13 @@
 -- A loader's steps.
-use Rattle.std.proofs.Common.{◌≡◌, ℕ, zero, suc, ◌+◌, ◌≤◌, true, List, [], ◌∷◌, ◌++◌, length, refl, sym, ap, subst, ◌∙◌, arith, append_assoc}
+use Rattle.std.proofs.Common.{◌≡◌, ℕ, ◌+◌, ◌≤◌, true, List, [], ◌∷◌, ◌++◌, length, refl, sym, ap, subst, ◌∙◌, arith, append_assoc}
 use Rattle.std.specs.Prelude.{if◌then◌else◌}
-use Rattle.std.specs.List.{flat_map}
 use Rattle.std.proofs.lemmas.Bool.{lt-ltb}
 use Rattle.std.proofs.lemmas.List.{append-nil, length-append, flat_map_more}
 use Rattle.cell_values.specs.declared.datum.Datum.{Datum}
 use Rattle.csv_scripts.specs.declared.plan.LoadPlan.{LoadPlan}
 use Rattle.csv_scripts.specs.Batches.{IsOpenLiteral}
 use Rattle.csv_scripts.specs.Literal.{literal_bytes, are_all_spellable}
-use Rattle.csv_scripts.specs.Scripts.{Part, part, lead_bytes, stage_bytes, staged_bytes, opening_bytes, direct_bytes, closing_bytes, block_bytes}
+use Rattle.csv_scripts.specs.Scripts.{Part, part, lead_bytes, stage_bytes, staged_bytes, opening_bytes, direct_bytes, closing_bytes}
 use Rattle.csv_scripts.specs.Loads.{IsSpelled, AreConsecutive, rows_in, IsLoading, IsLoad, at_once, in_steps}
 use Rattle.csv_scripts.proofs.LiteralRead.{literals_are_read}
 

@@ -1,5 +1,5 @@
 -- The values of a record with one more.
-use Rattle.std.proofs.Common.{◌≡◌, ℕ, ◌+◌, List, [], ◌∷◌, ◌++◌, length, sym, subst, arith}
+use Rattle.std.proofs.Common.{◌≡◌, ℕ, ◌+◌, List, [], ◌∷◌, ◌++◌, length, subst, arith}
 use Rattle.cell_values.specs.declared.datum.Datum.{Datum}
 use Rattle.csv_scripts.specs.Records.{HaveColumnValues}
 

@@ -1,12 +1,10 @@
 -- What `build` reads of a literal of records.
-use Rattle.std.proofs.Common.{◌≡◌, ◌==◌, ℤ, pos, ◌&&◌, true, Option, Some, None, List, [], ◌∷◌, length, refl, ap, ◌∙◌}
+use Rattle.std.proofs.Common.{◌≡◌, ◌==◌, ℤ, pos, Some, None, List, [], ◌∷◌, length, refl, ap, ◌∙◌}
 use Rattle.std.specs.Prelude.{◌+ℤ◌, int_le, if◌then◌else◌}
 use Rattle.std.proofs.lemmas.Bool.{and_from}
 use Rattle.cell_values.specs.declared.datum.Datum.{Datum}
-use Rattle.cell_values.specs.declared.datum.Row.{Row}
 use Rattle.cell_values.specs.declared.schema.Attribute.{Attribute}
-use Rattle.cell_values.specs.declared.schema.Dimension.{Dimension}
-use Rattle.check_rules.specs.LiteralRows.{fit_attributes, rows_from, rows_of, with_row, literal_rows}
+use Rattle.check_rules.specs.LiteralRows.{fit_attributes, rows_from, rows_of, with_row}
 use Rattle.check_rules.specs.Inner.Reader.{elements_of}
 use Rattle.check_rules.proofs.TextLemmas.{texts_are_read}
 use Rattle.csv_scripts.specs.Literal.{literal_bytes}

@@ -2,18 +2,15 @@
 use Rattle.std.specs.Prelude.{◌≡◌, ℕ, ◌+◌, Bool, if◌then◌else◌, Option, Some, ⊤, List, [], ◌∷◌, ◌++◌, length}
 use Rattle.std.specs.List.{flat_map}
 use Rattle.std.specs.Io.KnownBytes.{Appends}
-use Rattle.csv.specs.Reading.{AreRecords, Reached, Ready, default_config, reader_config, reader_state, reader_trim, source_of, strip_bom}
+use Rattle.csv.specs.Reading.{AreRecords, default_config, strip_bom}
 use Rattle.csv.specs.Records.{field_at}
 use Rattle.csv.specs.declared.parser.State.TheVariants as st
-use Rattle.csv.specs.declared.reader.Reader.{Reader}
-use Rattle.csv.specs.declared.reader.Trim.TheVariants as trim
 use Rattle.cell_values.specs.declared.datum.Datum.{Datum}
 use Rattle.cell_values.specs.declared.schema.Attribute.{Attribute}
-use Rattle.csv_scripts.specs.Loads.{IsLoad, IsLoading}
+use Rattle.csv_scripts.specs.Loads.{IsLoad}
 use Rattle.csv_scripts.specs.Records.{HasColumnValue, HaveColumnValues}
 use Rattle.csv_scripts.specs.Scripts.{create_bytes}
 use Rattle.csv_scripts.specs.declared.plan.LoadPlan.{LoadPlan}
-use Rattle.csv_scripts.specs.declared.loader.Loader.{Loader}
 
 -- statements, and the records that they put into the array
 pub record Load : Type 0 where

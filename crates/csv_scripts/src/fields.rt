@@ -1,8 +1,9 @@
 //! The value of a field.
-ghost use Rattle.std.specs.Prelude.{◌≡◌, Some, IfOk, IfSome};
+ghost use Rattle.std.specs.Prelude.{◌≡◌, ◌≤◌, ◌+◌, ◌++◌, ◌==◌, Some, IfOk, IfSome, IsTrue, OnOk, drop, length, replicate, take};
+ghost use Rattle.std.specs.List.{list_all};
 ghost use Rattle.std.specs.Str.Parse.{signed_digits_value};
 ghost use Rattle.cell_values.specs.declared.datum.Datum.{Datum};
-ghost use Rattle.csv_scripts.specs.Fields.{HasFieldValue, HasNumberValue, first_value, is_null_field, one_place, spelled_value, truth_word};
+ghost use Rattle.csv_scripts.specs.Fields.{HasFieldValue, HasNumberValue, are_zeros_behind, decimal_part, first_value, fixed_digits, is_null_field, is_nullable, one_place, spelled_value, truth_word, whole_part};
 
 use cell_values::{Attribute, Bytes, Cell, Datum, Dimension, Kind, List, Memory, Name};
 use check_rules::literal_rows;
@@ -92,32 +93,84 @@ fn parse_number(field: &[u8]) -> Option<Datum>
     }
 }
 
-/// The digits of a number with so many decimals, without its point. Decimals behind those are to be zeros.
-fn without_point(alloc: Global, field: &[u8], decimals: usize) -> Result<Option<Bytes>, Memory> {
-    let mut digits = Bytes::new(alloc);
-    let mut behind = None;
-    for byte in field {
-        match behind {
-            None if *byte == b'.' => behind = Some(0usize),
-            Some(count) if count >= decimals => {
-                if *byte != b'0' {
-                    return Ok(None);
-                }
-            }
-            Some(count) => {
-                digits.push(*byte)?;
-                behind = Some(count.saturating_add(1));
-            }
-            None => digits.push(*byte)?,
+/// Where the point of a number stands: behind its bytes where it has none.
+fn point_of(field: &[u8]) -> usize
+    ensures within { result ≤ length field.now }
+    ensures whole { take result field.now ≡ whole_part field.now }
+    ensures decimals { drop (result + 1) field.now ≡ decimal_part field.now }
+{
+    for at in 0..field.len() {
+        if field[at] == b'.' {
+            return at;
         }
     }
-    for _ in behind.unwrap_or(0)..decimals {
+    field.len()
+}
+
+/// The bytes behind the point of a number.
+fn decimal_part(field: &[u8]) -> &[u8]
+    ensures { result.now ≡ decimal_part field.now }
+{
+    let at = point_of(field);
+    if at < field.len() {
+        &field[at + 1..]
+    } else {
+        &field[at..]
+    }
+}
+
+/// The first of the bytes behind a point, so many at most.
+fn first_decimals(bytes: &[u8], decimals: usize) -> &[u8]
+    ensures { result.now ≡ take decimals bytes.now }
+{
+    if bytes.len() < decimals {
+        bytes
+    } else {
+        &bytes[..decimals]
+    }
+}
+
+fn are_zeros(bytes: &[u8]) -> bool
+    ensures { result ≡ list_all (λ b. b == 48) bytes.now }
+{
+    bytes.iter().all(|byte| *byte == b'0')
+}
+
+/// Whether the bytes behind so many are zeros.
+fn are_zeros_behind(bytes: &[u8], decimals: usize) -> bool
+    ensures { result ≡ list_all (λ b. b == 48) (drop decimals bytes.now) }
+{
+    if bytes.len() < decimals {
+        return true;
+    }
+    are_zeros(&bytes[decimals..])
+}
+
+fn push_zeros(digits: &mut Bytes, count: usize) -> Result<(), Memory>
+    ensures { OnOk result (digits.new ≡ digits.old ++ replicate count 48) }
+{
+    for _ in 0..count {
         digits.push(b'0')?;
     }
+    Ok(())
+}
+
+/// The digits of a number in the unit that makes so many decimals whole. Further ones are to be zeros.
+fn fixed_digits(alloc: Global, field: &[u8], decimals: usize) -> Result<Option<Bytes>, Memory>
+    ensures digits { IfOk result (λ found. IfSome found (λ digits. digits ≡ fixed_digits decimals field.now)) }
+    ensures zeros { IfOk result (λ found. IfSome found (λ digits. IsTrue (are_zeros_behind decimals field.now))) }
+{
+    let behind = decimal_part(field);
+    if !are_zeros_behind(behind, decimals) {
+        return Ok(None);
+    }
+    let mut digits = Bytes::from_slice(alloc, &field[..point_of(field)])?;
+    digits.extend(first_decimals(behind, decimals))?;
+    push_zeros(&mut digits, decimals.saturating_sub(behind.len()))?;
     Ok(Some(digits))
 }
 
-/// The number that digits write, with a point where decimals are told.
+/// The number that digits write, with a point in them where it has decimals.
 fn parse_decimal(alloc: Global, field: &[u8], decimals: usize) -> Result<Option<Datum>, Memory>
     ensures { IfOk result (λ found. IfSome found (HasNumberValue decimals field.now)) }
 {
@@ -127,7 +180,7 @@ fn parse_decimal(alloc: Global, field: &[u8], decimals: usize) -> Result<Option<
             None => Ok(None),
         };
     }
-    match without_point(alloc, field, decimals)? {
+    match fixed_digits(alloc, field, decimals)? {
         Some(digits) => match parse_number(digits.as_slice()) {
             Some(value) => Ok(Some(value)),
             None => Ok(None),
@@ -157,6 +210,15 @@ fn is_null_field(field: &[u8], null: &[u8]) -> bool
     field.is_empty() || field == null
 }
 
+fn is_nullable(columns: &[Attribute]) -> bool
+    ensures { result ≡ is_nullable columns.now }
+{
+    match columns {
+        [column, ..] => column.nullable,
+        [] => false,
+    }
+}
+
 /// The value of a field. `columns` is its column alone.
 pub(crate) fn parse_field(
     alloc: Global,
@@ -171,7 +233,7 @@ pub(crate) fn parse_field(
         return Ok(None);
     };
     if is_null_field(field, format.null) {
-        if column.nullable {
+        if is_nullable(columns) {
             return Ok(Some(Datum::Null));
         }
         return Ok(None);

@@ -1,8 +1,8 @@
-use Rattle.std.proofs.Common.{◌≡◌, ◌∙◌, ◌+◌, inl, inr, Some, option_map, if◌then◌else◌, List, [], ◌∷◌, ◌++◌, length, refl, sym, ap, subst, arith}
+use Rattle.std.proofs.Common.{◌∙◌, inr, option_map, if◌then◌else◌, List, [], ◌∷◌, refl, sym, ap, subst, arith}
 use Rattle.csv.specs.Reading.{Reached, strip_bom}
 use Rattle.csv.specs.Records.{fields_of}
 use Rattle.cell_values.specs.declared.schema.Attribute.{Attribute}
-use Rattle.csv_scripts.specs.Conversion.{AreColumns, Converts, HasRecordValues, scripts_of}
+use Rattle.csv_scripts.specs.Conversion.{AreColumns, HasRecordValues, scripts_of}
 use Rattle.csv_scripts.specs.Inner.Converting.{HasRead}
 use Rattle.csv_scripts.specs.Scripts.{create_bytes}
 use Rattle.csv_scripts.proofs.Conversions.{appends_more, begun}

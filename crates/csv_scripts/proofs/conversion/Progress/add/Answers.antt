@@ -1,6 +1,5 @@
-use Rattle.std.proofs.Common.{◌≡◌, ◌+◌, ◌∙◌, List, length, sym, subst, arith}
+use Rattle.std.proofs.Common.{◌≡◌, ◌+◌, ◌∙◌, length, sym, subst, arith}
 use Rattle.csv.specs.Records.{fields_of}
-use Rattle.cell_values.specs.declared.datum.Datum.{Datum}
 use Rattle.csv_scripts.specs.Conversion.{HasRecordValues, records_of}
 use Rattle.csv_scripts.proofs.Conversions.{added}
 use Rattle.csv_scripts.proofs.conversion.Progress.add.Goals as goal

@@ -1,4 +1,4 @@
-use Rattle.std.proofs.Common.{◌≡◌, ◌+◌, length, sym, subst}
+use Rattle.std.proofs.Common.{◌+◌, length, sym, subst}
 use Rattle.csv_scripts.specs.Conversion.{HasRecordValues, records_of}
 use Rattle.csv_scripts.specs.Loads.{IsLoading}
 use Rattle.csv_scripts.specs.declared.loader.Loader.{Loader}

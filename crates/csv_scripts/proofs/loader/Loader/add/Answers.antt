@@ -1,4 +1,4 @@
-use Rattle.std.proofs.Common.{◌≡◌, ◌++◌, ◌+◌, ◌∙◌, ap, sym, subst, arith, List, [], ℕ}
+use Rattle.std.proofs.Common.{◌≡◌, ◌++◌, ◌+◌, ◌∙◌, ap, sym, subst, arith, []}
 use Rattle.csv_scripts.specs.declared.batch.Batch.{Batch}
 use Rattle.csv_scripts.specs.Batches.{IsOpenLiteral}
 use Rattle.csv_scripts.specs.Loads.{IsSpelled}
