@@ -14,3 +14,4 @@ pub use lines::refusal_line;
 pub use listings::{list_text, ok_line, show_text, stored_line, versions_text};
 pub use records::{csv_plus, name_record, push_records};
 pub use refusal::Refusal;
+pub use spelling::{write_text, write_values};

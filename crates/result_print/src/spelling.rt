@@ -2,7 +2,7 @@
 ghost use Rattle.std.specs.Prelude.{◌≡◌, ℕ, ℤ, ◌++◌, List, map, codes, OnOk};
 ghost use Rattle.std.specs.Fmt.{decimal, signed_decimal};
 ghost use Rattle.afl_lexer.specs.Spelling.{escaped, quoted_text};
-ghost use Rattle.result_print.specs.Texts.{listed, place_text};
+ghost use Rattle.result_print.specs.Texts.{listed, place_text, spelled};
 ghost use Rattle.schema_grammar.specs.SchemaBytes.{separator};
 
 use cell_values::{Attribute, Bytes, Datum, Dimension, Memory};
@@ -44,7 +44,7 @@ fn write_escaped(out: &mut Bytes, byte: u8) -> Result<(), Memory>
 }
 
 /// Adds a text in quotes.
-pub(crate) fn write_text(out: &mut Bytes, content: &[u8]) -> Result<(), Memory>
+pub fn write_text(out: &mut Bytes, content: &[u8]) -> Result<(), Memory>
     ensures { OnOk result (out.new ≡ out.old ++ quoted_text content.now) }
 {
     out.push(b'\'')?;
@@ -115,6 +115,13 @@ pub(crate) fn write_list<T: Spelled>(out: &mut Bytes, parts: &[T]) -> Result<(),
         part.write(out)?;
     }
     Ok(())
+}
+
+/// Adds values as a literal spells them, with commas between. A fault has no text.
+pub fn write_values(out: &mut Bytes, values: &[Datum]) -> Result<(), Memory>
+    ensures { OnOk result (out.new ≡ out.old ++ listed (map spelled values.now)) }
+{
+    write_list(out, values)
 }
 
 /// Adds the text of a coordinate.

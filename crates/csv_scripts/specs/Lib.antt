@@ -1,0 +1,11 @@
+pub mod Batches
+pub mod Conversion
+pub mod Fields
+pub mod Inner
+pub mod Literal
+pub mod Loads
+pub mod Marks
+pub mod Plans
+pub mod Records
+pub mod Rows
+pub mod Scripts
