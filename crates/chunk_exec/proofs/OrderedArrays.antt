@@ -1,5 +1,5 @@
 -- Sorted, ranked and cumulated rows of an array are rows of their schemas.
-use Rattle.std.proofs.Common.{◌≡◌, ℕ, ◌<◌, ◌^◌, IsTrue, List, length, Option, Some, None, Result, Ok, Err, refl}
+use Rattle.std.proofs.Common.{◌≡◌, ℕ, IsTrue, List, length, Option, Some, None, Result, Ok, Err, refl}
 use Rattle.std.specs.Prelude.{◌&&◌, IfOk, slice_get}
 use Rattle.cell_values.specs.declared.datum.Broken.{Broken}
 use Rattle.cell_values.specs.declared.datum.Row.{Row}
@@ -13,7 +13,7 @@ use Rattle.logical_plan.specs.Faults.{and_then, if_whole}
 use Rattle.logical_plan.specs.Groups.{cells_of, first_some}
 use Rattle.logical_plan.specs.Ordered.{comes_first, cumulate_rows, numbered, rank_rows, sort_rows, sorted_by, unless_unsortable, unsortable_at}
 use Rattle.logical_plan.specs.PlanSchema.{cumulate_schema, rank_schema, sort_schema}
-use Rattle.logical_plan.specs.Typing.{are_aggregates_of, are_apart, are_below, can_be_ranked, cumulates, ranks}
+use Rattle.logical_plan.specs.Typing.{are_aggregates_of, are_apart, are_below, can_be_ranked, ranks}
 use Rattle.group_rows.proofs.CumulatedLaws.{cumulated_are_rows}
 use Rattle.group_rows.proofs.RankedLaws.{ranked_are_rows}
 use Rattle.group_rows.proofs.SortedLaws.{numbered_rises, sorted_kinds}

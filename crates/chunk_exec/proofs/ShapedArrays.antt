@@ -1,6 +1,6 @@
 -- Cells at other coordinates, and cells of two arrays in one, are rows of their schemas.
 use Rattle.std.proofs.Common.{◌≡◌, ℕ, IsTrue, List, Result, Ok, Err, refl, sym, subst}
-use Rattle.std.specs.Prelude.{◌&&◌, nat_le, IfOk}
+use Rattle.std.specs.Prelude.{nat_le, IfOk}
 use Rattle.cell_values.specs.declared.datum.Broken.{Broken}
 use Rattle.cell_values.specs.declared.datum.Row.{Row}
 use Rattle.cell_values.specs.declared.schema.Schema.{Schema}

@@ -11,7 +11,7 @@ use Rattle.array_geom.specs.declared.chunk.ChunkedArray.{ChunkedArray}
 use Rattle.array_geom.specs.Chunks.{IsChunk}
 use Rattle.array_geom.specs.Geometry.{ChunkNumber, overlaps, frame_lengths, volume, has_core}
 use Rattle.array_geom.specs.Link.{IsPart, NumbersRise, numbers, is_listed, Is}
-use Rattle.array_geom.proofs.NearLemmas.{valid_placed, size_is_volume}
+use Rattle.array_geom.proofs.NearLemmas.{size_is_volume}
 use Rattle.array_geom.proofs.TestLaws.{and_parts, at_most}
 use Rattle.array_parts.specs.Placed.{HasPlaces, HavePlaces}
 use Rattle.logical_plan.specs.declared.parts.Leaf.{Leaf}

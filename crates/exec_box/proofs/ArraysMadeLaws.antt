@@ -1,5 +1,5 @@
 -- An array made of the rows of another one means what the operator makes of that one's meaning.
-use Rattle.std.proofs.Common.{◌≡◌, ℕ, List, [], ◌∷◌, Some, None, Result, Ok, Err, sym, ap, subst, ◌∙◌}
+use Rattle.std.proofs.Common.{◌≡◌, ℕ, List, [], ◌∷◌, None, Result, Ok, sym, ap, subst, ◌∙◌}
 use Rattle.std.specs.Prelude.{IfOk}
 use Rattle.cell_values.specs.declared.datum.Broken.{Broken}
 use Rattle.cell_values.specs.declared.datum.Row.{Row}
@@ -13,7 +13,7 @@ use Rattle.array_rows.specs.Boxes.{is_inside, meet, bounds_of}
 use Rattle.array_rows.proofs.RowSets.{IsRising-rows_where}
 use Rattle.array_geom.specs.declared.chunk.ChunkedArray.{ChunkedArray}
 use Rattle.array_geom.specs.declared.chunk.Chunk.{Chunk}
-use Rattle.array_geom.specs.Geometry.{core, overlaps}
+use Rattle.array_geom.specs.Geometry.{core}
 use Rattle.array_geom.specs.Link.{Is, chunk_rows}
 use Rattle.array_parts.specs.Cores.{HasCells, HaveCells, cores_of, meant_by_cores, unless_broken}
 use Rattle.array_parts.proofs.CoreLaws.{arrays_are_their_cores, arrays_have_cells, cores_are_rows}
@@ -45,12 +45,6 @@ means_whole schema_of rows_of array schema new none e m =
     ap (λ (z : List Row). Ok z) m ∙ ap (λ b. if_whole (rows_of array.schema) (unless_broken b (cores_of array))) (sym none) in
     λ i. meant_of (e i) (rows i)
 
-pub means_broken : (schema_of : Schema → Schema) (rows_of : Schema → List Row → List Row) (array : ChunkedArray) (schema : Schema) (broken : Broken)
-    → schema ≡ schema_of array.schema → array.broken ≡ Some broken → meant_of schema (Err broken) ≡ made schema_of rows_of (meant_by_cores array)
-means_broken schema_of rows_of array schema broken e b =
-    let rows : Err broken ≡ if_whole (rows_of array.schema) (unless_broken array.broken (cores_of array)) = ap (λ z. if_whole (rows_of array.schema) (unless_broken z (cores_of array))) (sym b) in
-    λ i. meant_of (e i) (rows i)
-
 pub part_rows : (area : Bounds) (array : ChunkedArray) (schema : Schema) (new : List Row) → schema ≡ subarray_schema area array.schema → IsValid (subarray_schema area array.schema) → HaveCells array.schema array.margins.items array.chunks
     → new ≡ subarray_rows (meet (bounds_of array.schema.dimensions) area) (cores_of array) → AreRowsOf schema new
 part_rows area array schema new e v h m =
@@ -75,10 +69,3 @@ copy_has_cells array copy e is = subst HasCells (sym e) (arrays_have_cells array
 -- what is made of what the cores of a copy hold is made of what the array stands for
 pub of_copy : (operator : Meant → Meant) (array copy : ChunkedArray) (meant : Meant) (r : Result ChunkedArray Memory) → copy ≡ array → Is array meant → IfOk r (λ made. Is made (operator (meant_by_cores copy))) → IfOk r (λ made. Is made (operator meant))
 of_copy operator array copy meant r e is h = stands_for r (operator (meant_by_cores copy)) (operator meant) (ap operator (ap meant_by_cores e ∙ arrays_are_their_cores array meant is)) h
-
-pub margins_kept : (r : Result ChunkedArray Memory) (meant : Meant) → IfOk r (λ made. Is made meant) → IfOk r (λ made. made.margins.items ≡ overlaps meant.schema.dimensions) → IfOk r (λ made. made.margins.items ≡ overlaps made.schema.dimensions)
-margins_kept (Ok made) meant is same = same ∙ ap (λ (s : Schema). overlaps s.dimensions) (sym is.schema)
-margins_kept (Err memory) meant is same = same
-
-pub valid_same : (a b : Schema) → a ≡ b → IsValid b → IsValid a
-valid_same a b e v = subst IsValid (sym e) v

@@ -31,7 +31,7 @@ use Rattle.logical_plan.specs.Joins.{agree, cell_beside, cross_at, cross_rows, r
 use Rattle.logical_plan.specs.PlanSchema.{free_names, renamed_attribute, cross_schema}
 use Rattle.logical_plan.specs.Typing.{are_apart, are_below, left_places, pairs_dimensions}
 use Rattle.logical_plan.proofs.BuiltRows.{all-append, all-map, all-follows, all-each}
-use Rattle.join_rows.specs.Inner.Cross.{HaveRoom}
+use Rattle.exec_join.specs.Inner.Cross.{HaveRoom}
 use Rattle.exec_box.proofs.MovedLaws.{AllAt, all_where, passing}
 use Rattle.exec_box.proofs.SliceLaws.{AgreeFrom, inside_but, is_among, long, order_but}
 use Rattle.exec_join.proofs.SideLaws.{as_many_names, beside_kinds, renamed_cell, same_bounds}

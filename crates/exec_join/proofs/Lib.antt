@@ -4,5 +4,8 @@ pub mod FrontLaws
 pub mod JoinLaws
 pub mod MadeLaws
 pub mod MeetLaws
+pub mod MoveLaws
+pub mod PartnerLaws
 pub mod PieceLaws
+pub mod RowsCrossLaws
 pub mod SideLaws

@@ -1,5 +1,5 @@
 -- Arrays made of the rows of two others.
-use Rattle.std.proofs.Common.{◌≡◌, ℕ, List, [], ◌∷◌, Some, None, Result, Ok, Err, sym, ap, subst, ◌∙◌}
+use Rattle.std.proofs.Common.{◌≡◌, ℕ, List, [], ◌∷◌, None, Result, Ok, sym, ap, subst, ◌∙◌}
 use Rattle.std.specs.Prelude.{IfOk}
 use Rattle.std.specs.List.{AllByRecursion}
 use Rattle.cell_values.specs.declared.datum.Broken.{Broken}
@@ -8,7 +8,6 @@ use Rattle.cell_values.specs.declared.memory.Memory.{Memory}
 use Rattle.cell_values.specs.declared.schema.Schema.{Schema}
 use Rattle.array_rows.specs.Arrays.{AreRowsOf, Meant}
 use Rattle.array_rows.specs.Boxes.{is_inside}
-use Rattle.array_rows.specs.Rows.{IsRising}
 use Rattle.array_rows.proofs.RowSets.{IsRising-rows_where}
 use Rattle.array_geom.specs.declared.chunk.Chunk.{Chunk}
 use Rattle.array_geom.specs.declared.chunk.ChunkedArray.{ChunkedArray}
@@ -18,7 +17,6 @@ use Rattle.array_parts.specs.Cores.{HaveCells, cores_of, meant_by_cores, unless_
 use Rattle.array_parts.proofs.CoreLaws.{cores_are_rows}
 use Rattle.chunk_cells.specs.Whole.{CoresRise}
 use Rattle.logical_plan.specs.Faults.{if_whole, and_then}
-use Rattle.logical_plan.specs.Joins.{join_rows}
 use Rattle.logical_plan.specs.Meaning.{made_of_two}
 
 pub rise_in_cores : (schema : Schema) (margins : List ℕ) (chunks : List Chunk) → HaveCells schema margins chunks → CoresRise schema.dimensions margins chunks
@@ -43,15 +41,6 @@ pub means_whole : (rows_of : MadeOf) (schema : Schema) (left right : ChunkedArra
 means_whole rows_of schema left right left_rows right_rows rows l r e f m =
     ap (λ (z : List Row). meant_of schema (Ok z)) (m ∙ (λ i. rows_of (e i) (f i)))
     ∙ (λ i. meant_of schema (and_then (λ a. if_whole (rows_of a) (unless_broken (sym r i) (cores_of right))) (unless_broken (sym l i) (cores_of left))))
-
-pub means_left : (rows_of : MadeOf) (schema : Schema) (left right : ChunkedArray) (broken : Broken) → left.broken ≡ Some broken → meant_of schema (Err broken) ≡ made_of_two schema rows_of (meant_by_cores left) (meant_by_cores right)
-means_left rows_of schema left right broken l =
-    λ i. meant_of schema (and_then (λ a. if_whole (rows_of a) (unless_broken right.broken (cores_of right))) (unless_broken (sym l i) (cores_of left)))
-
-pub means_right : (rows_of : MadeOf) (schema : Schema) (left right : ChunkedArray) (broken : Broken) → left.broken ≡ None → right.broken ≡ Some broken
-    → meant_of schema (Err broken) ≡ made_of_two schema rows_of (meant_by_cores left) (meant_by_cores right)
-means_right rows_of schema left right broken l r =
-    λ i. meant_of schema (and_then (λ a. if_whole (rows_of a) (unless_broken (sym r i) (cores_of right))) (unless_broken (sym l i) (cores_of left)))
 
 pub stands_for : (r : Result ChunkedArray Memory) (a b : Meant) → a ≡ b → IfOk r (λ made. Is made a) → IfOk r (λ made. Is made b)
 stands_for r a b e h = subst (λ (m : Meant). IfOk r (λ made. Is made m)) e h

@@ -20,7 +20,7 @@ use Rattle.array_parts.specs.Cores.{HaveCells}
 use Rattle.array_parts.proofs.Lists.{rows_in-more}
 use Rattle.array_geom.specs.Arrays.{AreRowsOf}
 use Rattle.logical_plan.specs.Joins.{cell_beside, join_rows}
-use Rattle.join_rows.proofs.MoveLaws.{at_end, both_move, further, left_moves, right_moves, same_place}
+use Rattle.exec_join.proofs.MoveLaws.{at_end, both_move, further, left_moves, right_moves, same_place}
 use Rattle.area_cells.specs.declared.finding.Found.{Found}
 use Rattle.area_cells.specs.Found.{IsFound, found_cell, found_row, found_rows}
 use Rattle.area_cells.specs.Inner.Filled.{IsFilled}

@@ -18,7 +18,7 @@ use Rattle.arrayvec.specs.ArrayVec.{ArrayVec}
 use Rattle.array_geom.specs.declared.chunk.Chunk.{Chunk}
 use Rattle.array_geom.specs.declared.chunk.ChunkedArray.{ChunkedArray}
 use Rattle.array_geom.specs.Geometry.{ChunkNumber, HasFrame, core, first_in, has_core, last_in}
-use Rattle.array_geom.specs.Link.{IsPart, NumbersRise, core_rows, has_cell, is_not_empty, numbers}
+use Rattle.array_geom.specs.Link.{IsPart, core_rows, has_cell, is_not_empty, numbers}
 use Rattle.array_geom.proofs.NearLemmas.{valid_placed}
 use Rattle.array_parts.specs.Cores.{HaveCells}
 use Rattle.array_parts.specs.Parts.{AreParts}

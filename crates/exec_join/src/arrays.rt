@@ -3,9 +3,8 @@
 mod cross_numbers;
 mod cross_pieces;
 mod crossed;
-mod joined;
 mod meeting;
 mod pieces;
 
 pub use crossed::cross_join;
-pub use joined::join;
+pub use pieces::join;

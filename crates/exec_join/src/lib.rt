@@ -2,5 +2,8 @@
 #![tactic(auto)]
 
 mod arrays;
+mod beside;
+mod cross;
+mod partners;
 
 pub use arrays::{cross_join, join};

@@ -1,5 +1,5 @@
 -- Rows that gather the cells which land at one coordinate.
-use Rattle.std.proofs.Common.{◌≡◌, ◌<◌, ◌≤◌, ◌^◌, false, cond, IsTrue, List, [], ◌∷◌, map, filter, length, Option, Some, None, Result, Ok, Err, refl, sym, ap, ◌∙◌, subst, arith}
+use Rattle.std.proofs.Common.{◌≡◌, ◌<◌, ◌≤◌, ◌^◌, false, cond, IsTrue, List, [], ◌∷◌, map, filter, length, Some, Result, Ok, Err, refl, sym, ap, ◌∙◌, subst, arith}
 use Rattle.std.specs.List.{AllByRecursion, AllZip, list_all}
 use Rattle.std.specs.Option.{option_map}
 use Rattle.std.specs.Prelude.{IfOk}
@@ -15,19 +15,15 @@ use Rattle.cell_values.specs.declared.schema.Bounds.{Bounds}
 use Rattle.cell_values.specs.declared.schema.Schema.{Schema}
 use Rattle.cell_values.specs.Cells.{IsCellOf}
 use Rattle.cell_values.specs.Schemas.{IsValid}
-use Rattle.array_parts.proofs.CoreLaws.{cores_are_rows}
-use Rattle.array_parts.specs.Cores.{HaveCells, cores_of, unless_broken}
-use Rattle.array_geom.specs.declared.chunk.ChunkedArray.{ChunkedArray}
 use Rattle.array_rows.specs.Arrays.{AreRowsOf}
 use Rattle.array_rows.specs.Boxes.{is_inside, bounds_of}
 use Rattle.array_rows.specs.Rows.{Coordinate, row_major, placed, cell_at, in_order}
 use Rattle.array_rows.proofs.RowsLemmas.{row_major_exact, same_rows}
 use Rattle.array_rows.proofs.RowSets.{IsRising-in_order, cell_at-in_order}
 use Rattle.logical_plan.specs.declared.parts.Aggregate.{Aggregate}
-use Rattle.logical_plan.specs.CellOps.{fit_rows}
-use Rattle.logical_plan.specs.Faults.{and_then, if_whole}
+use Rattle.logical_plan.specs.Faults.{if_whole}
 use Rattle.logical_plan.specs.Groups.{aggregates_of}
-use Rattle.logical_plan.specs.Redimension.{Landed, origin_of, landed, landed_at, named, by_names, gathered_rows, redimension_rows}
+use Rattle.logical_plan.specs.Redimension.{Landed, origin_of, landed, landed_at, named, by_names, gathered_rows}
 use Rattle.logical_plan.specs.Typing.{is_kind_of}
 use Rattle.group_rows.specs.declared.rows.groups.Groups.{Groups}
 use Rattle.group_rows.specs.Counts.{cells_in}

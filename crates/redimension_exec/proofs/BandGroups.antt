@@ -18,7 +18,7 @@ use Rattle.group_rows.specs.Counts.{cells_in}
 use Rattle.group_rows.specs.Sets.{AreApartSets, IsApart, Sets, both, both_sets, unless_empty}
 use Rattle.group_rows.proofs.FormLaws.{same_sets}
 use Rattle.group_rows.proofs.RowLemmas.{joined_apart, put_all_joined}
-use Rattle.redimension_fill.specs.Inner.Counting.{has_counted}
+use Rattle.redimension_exec.specs.Inner.Counting.{has_counted}
 use Rattle.redimension_exec.specs.Inner.Grouping.{AreGroupsLanded, landed_sets}
 use Rattle.redimension_exec.proofs.GroupLaws.{at_rises, rising_landed}
 use Rattle.redimension_exec.proofs.LandedLaws.{whole_of}

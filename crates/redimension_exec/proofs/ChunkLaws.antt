@@ -39,11 +39,11 @@ use Rattle.group_rows.specs.Grouped.{AreGroupsOf}
 use Rattle.group_rows.specs.Sets.{AreApartSets, IsApart, Sets, both, both_sets, unless_empty}
 use Rattle.group_rows.proofs.FormLaws.{same_sets}
 use Rattle.group_rows.proofs.RowLemmas.{both_apart}
-use Rattle.redimension_fill.specs.Inner.Bands.{AreBands}
-use Rattle.redimension_fill.specs.Inner.Counting.{has_counted}
+use Rattle.redimension_exec.specs.Inner.Bands.{AreBands}
+use Rattle.redimension_exec.specs.Inner.Counting.{has_counted}
 use Rattle.redimension_exec.specs.Inner.Grouping.{AreGroupsLanded, landed_sets}
-use Rattle.redimension_fill.proofs.HoldLaws.{long_as_core}
-use Rattle.redimension_fill.proofs.BandLaws.{back_of, front_of}
+use Rattle.redimension_exec.proofs.HoldLaws.{long_as_core}
+use Rattle.redimension_exec.proofs.BandLaws.{back_of, front_of}
 use Rattle.redimension_exec.proofs.LandedLaws.{whole_of}
 use Rattle.redimension_exec.proofs.LandingsGatherLaws.{if_ok, landing_free}
 

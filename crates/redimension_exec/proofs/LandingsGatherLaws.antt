@@ -20,12 +20,12 @@ use Rattle.logical_plan.specs.declared.parts.Aggregate.{Aggregate}
 use Rattle.logical_plan.specs.Faults.{if_whole}
 use Rattle.logical_plan.specs.Groups.{bad_kind, first_some}
 use Rattle.logical_plan.specs.Redimension.{Origin, Landing, Landed, lands, drops, breaks, target_value, counted_places, counted_up, alike_so_far, landing_at, landing_of, unless_fault, after_landing, landed}
-use Rattle.redimension_fill.specs.Inner.Counting.{has_counted}
+use Rattle.redimension_exec.specs.Inner.Counting.{has_counted}
 use Rattle.redimension_exec.specs.Inner.Taking.{HoldsStates, IsTaken, rows_in}
-use Rattle.redimension_fill.specs.Landings.{BeginsAs, first_numbers}
+use Rattle.redimension_exec.specs.Landings.{BeginsAs, first_numbers}
 use Rattle.redimension_exec.proofs.LandedLaws.{whole_of}
-use Rattle.redimension_fill.proofs.LandingLaws.{first_length}
-use Rattle.redimension_fill.proofs.TakenLaws.{up_none}
+use Rattle.redimension_exec.proofs.LandingLaws.{first_length}
+use Rattle.redimension_exec.proofs.TakenLaws.{up_none}
 
 module _ (origins : List Origin) (bounds : Bounds) (plain : has_counted origins ≡ false) where
   pub landing_free : (a b : List Coordinate) (c : Coordinate) (cell : Cell) → landing_of origins bounds false a c cell ≡ landing_of origins bounds false b c cell

@@ -1,12 +1,22 @@
 pub mod ArraysGatherLaws
 pub mod BandGroups
+pub mod BandLaws
 pub mod ChunkLaws
+pub mod CountFronts
+pub mod CountLaws
+pub mod FillLaws
+pub mod FrontLaws
 pub mod GroupLaws
+pub mod HoldLaws
 pub mod LandedLaws
+pub mod LandingLaws
 pub mod LandingsGatherLaws
 pub mod MeantLaws
 pub mod OrderLaws
 pub mod SortLaws
 pub mod StateLaws
+pub mod StepLaws
+pub mod TakenLaws
 pub mod TellLaws
 pub mod ValueLaws
+mod WorkedTargets

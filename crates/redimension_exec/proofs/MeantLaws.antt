@@ -1,5 +1,5 @@
 -- Redimensions of whole arrays.
-use Rattle.std.proofs.Common.{◌≡◌, ℕ, true, IsTrue, List, [], map, Some, None, Result, Ok, Err, refl, sym, ◌∙◌, subst}
+use Rattle.std.proofs.Common.{◌≡◌, ℕ, true, IsTrue, List, [], map, None, Result, Ok, Err, refl, sym, ◌∙◌, subst}
 use Rattle.std.specs.BTreeMap.{BTreeMap}
 use Rattle.std.specs.Prelude.{IfOk}
 use Rattle.cell_values.specs.declared.datum.Broken.{Broken}
@@ -16,15 +16,14 @@ use Rattle.array_geom.specs.declared.chunk.ChunkedArray.{ChunkedArray}
 use Rattle.array_geom.specs.Link.{Is}
 use Rattle.array_parts.specs.Cores.{HaveCells, cores_of, meant_by_cores, unless_broken}
 use Rattle.array_parts.proofs.CoreLaws.{cores_are_rows}
-use Rattle.logical_plan.specs.declared.parts.Aggregate.{Aggregate}
 use Rattle.logical_plan.specs.CellOps.{fit_rows}
 use Rattle.logical_plan.specs.Faults.{if_whole, and_then}
 use Rattle.logical_plan.specs.Meaning.{redimensioned_from}
 use Rattle.logical_plan.specs.Redimension.{landed, origin_of, redimension_rows, value_origin}
 use Rattle.logical_plan.specs.Typing.{redimensions}
-use Rattle.redimension_fill.specs.Inner.Filling.{HoldsLanded}
+use Rattle.redimension_exec.specs.Inner.Filling.{HoldsLanded}
 use Rattle.redimension_exec.specs.Inner.Telling.{CanTell}
-use Rattle.redimension_fill.specs.Inner.Steps.{continued}
+use Rattle.redimension_exec.specs.Inner.Steps.{continued}
 use Rattle.redimension_exec.proofs.LandedLaws.{made_of, carried_are_rows}
 use Rattle.redimension_exec.proofs.SortLaws.{broken_whole, made_apart, sorted_whole}
 
@@ -51,9 +50,6 @@ means_whole array target rows none e = means array target (Ok rows) none e
 pub means_breaking : (array : ChunkedArray) (target : Schema) (broken : Broken) → array.broken ≡ None → Err broken ≡ made_of array.schema target (cores_of array)
     → meant_of target (Err broken) ≡ redimensioned_from target [] (meant_by_cores array)
 means_breaking array target broken none e = means array target (Err broken) none e
-
-pub means_broken : (array : ChunkedArray) (target : Schema) (gs : List Aggregate) (broken : Broken) → array.broken ≡ Some broken → meant_of target (Err broken) ≡ redimensioned_from target gs (meant_by_cores array)
-means_broken array target gs broken b = λ i. meant_of target (and_then (redimension_rows array.schema target gs) (unless_broken (sym b i) (cores_of array)))
 
 -- ---- chunks that hold what landed
 

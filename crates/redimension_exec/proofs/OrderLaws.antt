@@ -18,7 +18,7 @@ use Rattle.logical_plan.specs.Groups.{aggregate_of, aggregates_of, cells_of}
 use Rattle.logical_plan.specs.PlanSchema.{aggregate_kind}
 use Rattle.logical_plan.specs.Redimension.{Origin, from_dimension, from_attribute, counted, origin_of, counted_places, named, value_or_null, by_names}
 use Rattle.logical_plan.specs.Typing.{is_aggregate_of, are_aggregates_of, aggregate_names, is_kind_of, kinds_of, redimensions, synthetic_count}
-use Rattle.redimension_fill.specs.Inner.Counting.{has_counted}
+use Rattle.redimension_exec.specs.Inner.Counting.{has_counted}
 use Rattle.redimension_exec.proofs.ValueLaws.{same as kind_same}
 
 -- ---- what a redimension with aggregates asks for

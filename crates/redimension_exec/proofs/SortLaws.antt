@@ -23,8 +23,8 @@ use Rattle.logical_plan.specs.Faults.{if_whole}
 use Rattle.logical_plan.specs.Groups.{bad_kind, first_some, number_of}
 use Rattle.logical_plan.specs.Redimension.{Origin, Landing, Landed, lands, drops, breaks, target_value, counted_places, counted_up, alike_so_far, landing_at, landing_of, unless_fault, after_landing, landed, carried, carried_rows}
 use Rattle.redimension_exec.specs.Inner.Sorting.{AreDifferent}
-use Rattle.redimension_fill.specs.Inner.Steps.{continued}
-use Rattle.redimension_fill.proofs.CountLaws.{is_equal}
+use Rattle.redimension_exec.specs.Inner.Steps.{continued}
+use Rattle.redimension_exec.proofs.CountLaws.{is_equal}
 
 abbrev pub comes_before : Row → Row → Bool
 comes_before x y = is_lt (row_major x.at.items y.at.items)

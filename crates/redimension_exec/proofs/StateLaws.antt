@@ -21,7 +21,7 @@ use Rattle.group_rows.specs.Sets.{Sets, unless_empty}
 use Rattle.group_rows.specs.Taken.{KeepsGroups, by_coordinate, rows_of, sets_with}
 use Rattle.group_rows.proofs.TakenLaws.{none_of, same_kept, set_rows, some_rows}
 use Rattle.group_rows.proofs.RowLemmas.{rising_left}
-use Rattle.redimension_fill.specs.Inner.Counting.{has_counted}
+use Rattle.redimension_exec.specs.Inner.Counting.{has_counted}
 use Rattle.redimension_exec.specs.Inner.Grouping.{landed_sets}
 use Rattle.redimension_exec.specs.Inner.Taking.{HoldsStates, IsTaken, rows_in}
 use Rattle.redimension_exec.proofs.GroupLaws.{at_rises, rising_landed}

@@ -1,9 +1,12 @@
-//! `redimension`: which rows land together, and the array of them.
+//! `redimension`: where cells land and which land together, and the array of them.
 #![tactic(auto)]
 
 mod arrays;
+mod filling;
 mod landings;
+mod moving;
+mod places;
 mod telling;
 
 pub use arrays::{groups_landed, redimension, redimension_cells};
-pub use redimension_fill::bounds_of;
+pub use places::bounds_of;

@@ -20,7 +20,7 @@ use Rattle.array_geom.specs.declared.chunk.Chunk.{Chunk}
 use Rattle.array_geom.specs.declared.chunk.ChunkedArray.{ChunkedArray}
 use Rattle.array_geom.specs.Geometry.{ChunkNumber, HasFrame, first_in, frame, frame_low, has_core, last_in}
 use Rattle.array_geom.specs.Inner.Ranges.{AreLow, AreMargins, AreNear, IsLow, IsNear}
-use Rattle.array_geom.specs.Link.{IsPart, NumbersRise, core_rows, numbers}
+use Rattle.array_geom.specs.Link.{IsPart, core_rows, numbers}
 use Rattle.array_geom.proofs.NearLemmas.{lows_in_range, margins_of, valid_placed}
 use Rattle.array_geom.proofs.TestLaws.{and_parts, le_from_test}
 use Rattle.array_parts.proofs.PartLemmas.{all_kept}

@@ -1,13 +1,9 @@
-//! The bounds of arrays, and arrays that could not be computed.
-ghost use Rattle.std.specs.Prelude.{◌≡◌, ◌≤◌, Err as Bad, length, IfOk};
+//! The bounds of arrays.
+ghost use Rattle.std.specs.Prelude.{◌≡◌, ◌≤◌, length};
 ghost use Rattle.cell_values.specs.Schemas.{IsValid};
 ghost use Rattle.array_rows.specs.Boxes.{bounds_of};
-ghost use Rattle.array_geom.specs.Geometry.{overlaps};
-ghost use Rattle.array_geom.specs.Link.{Is};
 
-use array_geom::{ChunkedArray, margins_of};
-use cell_values::{Bounds, Broken, Coord, Dimension, Memory, Schema};
-use chunk_cells::broken_array;
+use cell_values::{Bounds, Coord, Dimension, Schema};
 
 fn bounds_within(dims: &[Dimension]) -> Bounds
     requires { length dims.now ≤ 6 }
@@ -29,15 +25,4 @@ pub(crate) fn bounds(schema: &Schema) -> Bounds
     ensures { result ≡ bounds_of schema.now.dimensions }
 {
     bounds_within(schema.dimensions.as_slice())
-}
-
-/// An array that could not be computed.
-#[tactic(auto, using(array_geom::proofs::MarginLaws::overlap_each))]
-pub(crate) fn broken_part(schema: &Schema, broken: &Broken) -> Result<ChunkedArray, Memory>
-    requires { IsValid schema.now }
-    ensures array { IfOk result (λ array. Is array (record { schema = schema.now; rows = Bad broken.now })) }
-    ensures margins { IfOk result (λ array. array.margins.items ≡ overlaps schema.now.dimensions) }
-{
-    let margins = margins_of(schema);
-    broken_array(schema, &margins, broken)
 }

@@ -1,5 +1,5 @@
 //! Arrays cut to a box.
-ghost use Rattle.std.specs.Prelude.{◌≡◌, IfOk};
+ghost use Rattle.std.specs.Prelude.{◌≡◌, None, IfOk};
 ghost use Rattle.cell_values.specs.Schemas.{IsValid};
 ghost use Rattle.array_rows.specs.Boxes.{within};
 ghost use Rattle.array_parts.specs.Cores.{HasCells};
@@ -35,6 +35,7 @@ pub fn between<R: Threads + Sync, G: Gate>(
     schema: Schema,
     area: &Bounds,
 ) -> Result<ChunkedArray, Memory>
+    requires whole { array.broken ≡ None }
     requires cells { HasCells array }
     requires valid { IsValid schema }
     requires dimensions { schema.dimensions ≡ array.schema.dimensions }

@@ -1,5 +1,5 @@
 //! Arrays through an operator.
-ghost use Rattle.std.specs.Prelude.{◌≡◌, IfOk};
+ghost use Rattle.std.specs.Prelude.{◌≡◌, None, IfOk};
 ghost use Rattle.cell_values.specs.Schemas.{IsValid};
 ghost use Rattle.array_parts.specs.Cores.{HasCells};
 ghost use Rattle.array_parts.specs.Parts.{IsLocal};
@@ -13,14 +13,14 @@ use cell_values::{Memory, Schema};
 use chunk_workers::Crew;
 use std::thread::Threads;
 
-/// What an operator makes of an array, chunk by chunk: an array of this schema, which has the same dimensions. A broken array stays
-/// broken.
+/// What an operator makes of an array, chunk by chunk: an array of this schema, which has the same dimensions.
 pub fn over_array<R: Threads + Sync, O: ChunkOperator + Sync, G: Gate>(
     crew: &mut Crew<'_, R, G>,
     array: ChunkedArray,
     schema: Schema,
     operator: &O,
 ) -> Result<ChunkedArray, Memory>
+    requires whole { array.broken ≡ None }
     requires cells { HasCells array }
     requires valid { IsValid schema }
     requires dimensions { schema.dimensions ≡ array.schema.dimensions }
@@ -31,23 +31,13 @@ pub fn over_array<R: Threads + Sync, O: ChunkOperator + Sync, G: Gate>(
         schema: old,
         margins,
         chunks,
-        broken,
+        broken: _,
     } = array;
-    match broken {
-        Some(broken) => Ok(ChunkedArray {
-            schema,
-            margins,
-            chunks: chunks.another(),
-            broken: Some(broken),
-        }),
-        None => {
-            let chunks = over_chunks(crew, &old, &margins, chunks, operator)?;
-            Ok(ChunkedArray {
-                schema,
-                margins,
-                chunks,
-                broken: None,
-            })
-        }
-    }
+    let chunks = over_chunks(crew, &old, &margins, chunks, operator)?;
+    Ok(ChunkedArray {
+        schema,
+        margins,
+        chunks,
+        broken: None,
+    })
 }

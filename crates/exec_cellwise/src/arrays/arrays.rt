@@ -1,5 +1,5 @@
 //! Whole arrays through the operators.
-ghost use Rattle.std.specs.Prelude.{◌≡◌, IfOk};
+ghost use Rattle.std.specs.Prelude.{◌≡◌, None, IfOk};
 ghost use Rattle.cell_values.specs.Schemas.{IsValid};
 ghost use Rattle.array_parts.specs.Cores.{HasCells};
 ghost use Rattle.exec_box.specs.Made.{IsMadeOf};
@@ -22,6 +22,7 @@ pub fn filter<R: Threads + Sync, G: Gate>(
     schema: Schema,
     test: &TypedExpr,
 ) -> Result<ChunkedArray, Memory>
+    requires whole { array.broken ≡ None }
     requires cells { HasCells array }
     requires valid { IsValid schema }
     requires dimensions { schema.dimensions ≡ array.schema.dimensions }
@@ -37,6 +38,7 @@ pub fn apply<R: Threads + Sync, G: Gate>(
     schema: Schema,
     values: &[Applied],
 ) -> Result<ChunkedArray, Memory>
+    requires whole { array.broken ≡ None }
     requires cells { HasCells array }
     requires valid { IsValid schema }
     requires dimensions { schema.dimensions ≡ array.schema.dimensions }
@@ -52,6 +54,7 @@ pub fn project<R: Threads + Sync, G: Gate>(
     schema: Schema,
     places: &[u32],
 ) -> Result<ChunkedArray, Memory>
+    requires whole { array.broken ≡ None }
     requires cells { HasCells array }
     requires valid { IsValid schema }
     requires dimensions { schema.dimensions ≡ array.schema.dimensions }

@@ -12,8 +12,7 @@ ghost use Rattle.exec_group.specs.Inner.Parts.{has_parts};
 use crate::parts::told_array;
 use crate::pieces::parts::groups_by_parts;
 use afl_outside::Gate;
-use area_cells::broken_array;
-use array_geom::{Chunk, ChunkedArray, margins_of};
+use array_geom::{Chunk, ChunkedArray};
 use cell_values::{Memory, Schema};
 use chunk_workers::Crew;
 use group_rows::aggregate_groups;
@@ -83,8 +82,9 @@ fn of_none(
     told_array(groups, target)
 }
 
-/// The aggregates of an array that is not broken. Without names and without chunks there is a group all the same.
-fn of_whole<R: Threads + Sync, G: Gate>(
+/// The aggregates of the cells that agree in the named dimensions, of all cells without names: an array of the target, chunk by
+/// chunk. Without names there is a group also where there is no chunk. What the array's margins hold doesn't matter.
+pub fn aggregate<R: Threads + Sync, G: Gate>(
     crew: &mut Crew<'_, R, G>,
     array: ChunkedArray,
     aggs: &[Aggregate],
@@ -92,7 +92,7 @@ fn of_whole<R: Threads + Sync, G: Gate>(
     target: &Schema,
 ) -> Result<ChunkedArray, Memory>
     requires whole { array.broken ≡ None }
-    requires cells { HaveCells array.schema array.margins.items array.chunks }
+    requires cells { HasCells array }
     requires target { target.now ≡ aggregate_schema aggs.now dims.now array.schema }
     requires valid { IsValid target.now }
     requires typed { IsTrue (are_aggregates_of array.schema.attributes aggs.now) }
@@ -104,29 +104,5 @@ fn of_whole<R: Threads + Sync, G: Gate>(
         by_parts(crew, array, aggs, dims, target)
     } else {
         of_none(array, aggs, dims, target)
-    }
-}
-
-/// The aggregates of the cells that agree in the named dimensions, of all cells without names: an array of the target, chunk by
-/// chunk. What the array's margins hold doesn't matter.
-#[tactic(auto, using(array_geom::proofs::MarginLaws::overlap_each))]
-pub fn aggregate<R: Threads + Sync, G: Gate>(
-    crew: &mut Crew<'_, R, G>,
-    array: ChunkedArray,
-    aggs: &[Aggregate],
-    dims: &[u32],
-    target: &Schema,
-) -> Result<ChunkedArray, Memory>
-    requires cells { HasCells array }
-    requires target { target.now ≡ aggregate_schema aggs.now dims.now array.schema }
-    requires valid { IsValid target.now }
-    requires typed { IsTrue (are_aggregates_of array.schema.attributes aggs.now) }
-    requires names { IsTrue (are_below (length array.schema.dimensions) dims.now) }
-    ensures array { IfOk result (λ made. Is made (aggregate_meant aggs.now dims.now (meant_by_cores array))) }
-    ensures margins { IfOk result (λ made. made.margins.items ≡ overlaps target.now.dimensions) }
-{
-    match &array.broken {
-        Some(broken) => broken_array(target, &margins_of(target), broken),
-        None => of_whole(crew, array, aggs, dims, target),
     }
 }

@@ -1,5 +1,5 @@
 //! The aggregates of an array's blocks, chunk by chunk.
-ghost use Rattle.std.specs.Prelude.{◌≡◌, ◌≤◌, ◌<◌, ◌^◌, ◌∷◌, [], None, length, IsTrue, IfOk};
+ghost use Rattle.std.specs.Prelude.{◌≡◌, ◌≤◌, ◌<◌, ◌^◌, ◌∷◌, [], None, IsTrue, IfOk};
 ghost use Rattle.std.specs.List.{AllZip};
 ghost use Rattle.cell_values.specs.Schemas.{IsValid};
 ghost use Rattle.array_parts.specs.Cores.{HasCells, HaveCells, meant_by_cores};
@@ -16,8 +16,7 @@ ghost use Rattle.exec_group.specs.Inner.Parts.{IsBlockPartOf};
 use crate::parts::{regrid_part, told_array};
 use crate::pieces::parts::are_few;
 use afl_outside::Gate;
-use area_cells::broken_array;
-use array_geom::{Chunk, ChunkedArray, margins_of};
+use array_geom::{Chunk, ChunkedArray};
 use cell_values::{List, Margins, Memory, Schema};
 use chunk_workers::{Crew, Work, over_pieces};
 use group_rows::{Groups, merge_all};
@@ -89,8 +88,8 @@ fn blocks_by_parts<R: Threads + Sync, G: Gate>(
     merge_all(parts)
 }
 
-/// The aggregates by blocks of an array that is not broken, found chunk by chunk.
-fn by_blocks<R: Threads + Sync, G: Gate>(
+/// The aggregates of the cells of each block: an array of the target, chunk by chunk. What the array's margins hold doesn't matter.
+pub fn regrid<R: Threads + Sync, G: Gate>(
     crew: &mut Crew<'_, R, G>,
     array: ChunkedArray,
     blocks: &[u64],
@@ -98,7 +97,7 @@ fn by_blocks<R: Threads + Sync, G: Gate>(
     target: &Schema,
 ) -> Result<ChunkedArray, Memory>
     requires whole { array.broken ≡ None }
-    requires cells { HaveCells array.schema array.margins.items array.chunks }
+    requires cells { HasCells array }
     requires target { target.now ≡ regrid_schema blocks.now aggs.now array.schema }
     requires valid { IsValid target.now }
     requires typed { IsTrue (are_aggregates_of array.schema.attributes aggs.now) }
@@ -113,26 +112,4 @@ fn by_blocks<R: Threads + Sync, G: Gate>(
     } = array;
     let groups = blocks_by_parts(crew, &schema, &margins, chunks, blocks, aggs)?;
     told_array(groups, target)
-}
-
-/// The aggregates of the cells of each block: an array of the target, chunk by chunk. What the array's margins hold doesn't matter.
-#[tactic(auto, using(array_geom::proofs::MarginLaws::overlap_each))]
-pub fn regrid<R: Threads + Sync, G: Gate>(
-    crew: &mut Crew<'_, R, G>,
-    array: ChunkedArray,
-    blocks: &[u64],
-    aggs: &[Aggregate],
-    target: &Schema,
-) -> Result<ChunkedArray, Memory>
-    requires cells { HasCells array }
-    requires target { target.now ≡ regrid_schema blocks.now aggs.now array.schema }
-    requires valid { IsValid target.now }
-    requires typed { IsTrue (are_aggregates_of array.schema.attributes aggs.now) }
-    ensures array { IfOk result (λ made. Is made (regrid_meant blocks.now aggs.now (meant_by_cores array))) }
-    ensures margins { IfOk result (λ made. made.margins.items ≡ overlaps target.now.dimensions) }
-{
-    match &array.broken {
-        Some(broken) => broken_array(target, &margins_of(target), broken),
-        None => by_blocks(crew, array, blocks, aggs, target),
-    }
 }

@@ -7,7 +7,7 @@ use Rattle.array_geom.specs.Geometry.{volume}
 use Rattle.array_geom.specs.Link.{rows_in}
 use Rattle.area_cells.specs.declared.finding.Found.{Found}
 use Rattle.area_cells.specs.Found.{found_rows}
-use Rattle.join_rows.specs.Inner.Beside.{IsMove}
+use Rattle.exec_join.specs.Inner.Beside.{IsMove}
 
 -- with what is left of both the chunk stands for the same joined rows as before
 pub record Meets (grid : Grid) (left right : List Found) (made : Chunk) (at_left at_right : ℕ) (made' : Chunk) (at_left' at_right' : ℕ) : Type 0 where

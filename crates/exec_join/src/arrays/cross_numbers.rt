@@ -9,10 +9,10 @@ ghost use Rattle.exec_box.specs.Inner.Reached.{AddsPicks};
 ghost use Rattle.logical_plan.specs.BoxOps.{items_but};
 ghost use Rattle.exec_join.specs.Inner.Pieces.{AddsOthers, AreCrossed};
 
+use crate::partners::is_among;
 use array_geom::Chunk;
 use cell_values::{ChunkAt, List, Memory, Schema, copy_numbers};
 use exec_box::{in_order, push_core};
-use join_rows::is_among;
 
 fn push_unless(out: &mut ChunkAt, is_left_out: bool, number: u64)
     requires { length out.old.items < 6 }

@@ -3,7 +3,7 @@ ghost use Rattle.std.specs.Prelude.{◌≡◌, ◌+◌, ◌≤◌, ◌++◌, Non
 ghost use Rattle.cell_values.specs.Schemas.{IsValid};
 ghost use Rattle.array_rows.specs.Boxes.{corners, within};
 ghost use Rattle.array_geom.specs.Geometry.{HasFrame, overlaps};
-ghost use Rattle.array_geom.specs.Link.{Is, NumbersRise, numbers};
+ghost use Rattle.array_geom.specs.Link.{Is, numbers};
 ghost use Rattle.array_parts.specs.Cores.{HaveCells, cores_of, meant_by_cores};
 ghost use Rattle.area_cells.specs.Pieces.{IsPartAt};
 ghost use Rattle.logical_plan.specs.Joins.{cross_rows};
@@ -13,6 +13,7 @@ ghost use Rattle.exec_join.specs.Meant.{cross_meant};
 ghost use Rattle.exec_join.specs.Inner.Pieces.{paired_place, set_aside};
 
 use crate::arrays::cross_numbers::{crossed_numbers, unpaired_numbers};
+use crate::cross::{cross_of_rows, right_places};
 use area_cells::{array_of_parts, chunk_of_rows, rows_in_area};
 use array_geom::{Chunk, ChunkedArray, frame, grid_of, margins_of};
 use cell_values::{
@@ -20,7 +21,6 @@ use cell_values::{
 };
 use chunk_workers::Work;
 use exec_box::in_turn;
-use join_rows::{cross_of_rows, right_places};
 use logical_plan::Pair;
 
 /// The left dimension with which a right one is paired.

@@ -1,7 +1,7 @@
 //! The cells of two arrays side by side, where their coordinates agree in some dimensions.
 ghost use Rattle.std.specs.Prelude.{◌≡◌, None, IfOk, IsTrue};
 ghost use Rattle.cell_values.specs.Schemas.{IsValid};
-ghost use Rattle.array_parts.specs.Cores.{HasCells, HaveCells, meant_by_cores};
+ghost use Rattle.array_parts.specs.Cores.{HasCells, meant_by_cores};
 ghost use Rattle.array_geom.specs.Geometry.{overlaps};
 ghost use Rattle.array_geom.specs.Link.{Is};
 ghost use Rattle.logical_plan.specs.PlanSchema.{cross_schema};
@@ -9,44 +9,21 @@ ghost use Rattle.logical_plan.specs.Typing.{pairs_dimensions};
 ghost use Rattle.exec_join.specs.Meant.{cross_meant};
 
 use crate::arrays::cross_pieces::cross_by_pieces;
-use array_geom::{ChunkedArray, margins_of};
+use array_geom::ChunkedArray;
 use cell_values::{Memory, Schema};
-use chunk_cells::broken_array;
 use logical_plan::Pair;
-
-/// The cross join of two arrays of which the left one is not broken.
-#[tactic(auto, using(array_geom::proofs::MarginLaws::overlap_each))]
-fn with_right(
-    left: ChunkedArray,
-    right: ChunkedArray,
-    pairs: &[Pair],
-    schema: &Schema,
-) -> Result<ChunkedArray, Memory>
-    requires left_whole { left.broken ≡ None }
-    requires left_cells { HaveCells left.schema left.margins.items left.chunks }
-    requires right_cells { HasCells right }
-    requires schema { schema.now ≡ cross_schema pairs.now left.schema right.schema }
-    requires valid { IsValid schema.now }
-    requires pairs { IsTrue (pairs_dimensions pairs.now left.schema right.schema) }
-    ensures array { IfOk result (λ made. Is made (cross_meant schema.now pairs.now (meant_by_cores left) (meant_by_cores right))) }
-    ensures margins { IfOk result (λ made. made.margins.items ≡ overlaps schema.now.dimensions) }
-{
-    match &right.broken {
-        Some(broken) => broken_array(schema, &margins_of(schema), broken),
-        None => cross_by_pieces(&left, &right, pairs, schema),
-    }
-}
 
 /// The cells of two arrays side by side for each two whose coordinates agree in the paired dimensions, in chunks of this schema, which
 /// is that of their cross join. What the margins of the two hold doesn't matter. Takes time for a sort of the right cells, a search for
 /// each left cell and the result.
-#[tactic(auto, using(array_geom::proofs::MarginLaws::overlap_each))]
 pub fn cross_join(
     left: ChunkedArray,
     right: ChunkedArray,
     pairs: &[Pair],
     schema: &Schema,
 ) -> Result<ChunkedArray, Memory>
+    requires left_whole { left.broken ≡ None }
+    requires right_whole { right.broken ≡ None }
     requires left_cells { HasCells left }
     requires right_cells { HasCells right }
     requires schema { schema.now ≡ cross_schema pairs.now left.schema right.schema }
@@ -55,8 +32,5 @@ pub fn cross_join(
     ensures array { IfOk result (λ made. Is made (cross_meant schema.now pairs.now (meant_by_cores left) (meant_by_cores right))) }
     ensures margins { IfOk result (λ made. made.margins.items ≡ overlaps schema.now.dimensions) }
 {
-    match &left.broken {
-        Some(broken) => broken_array(schema, &margins_of(schema), broken),
-        None => with_right(left, right, pairs, schema),
-    }
+    cross_by_pieces(&left, &right, pairs, schema)
 }

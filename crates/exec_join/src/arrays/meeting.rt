@@ -8,11 +8,11 @@ ghost use Rattle.area_cells.specs.Inner.Filled.{IsFilled};
 ghost use Rattle.logical_plan.specs.Joins.{cell_beside, join_rows};
 ghost use Rattle.exec_join.specs.Inner.Meeting.{Meets};
 
+use crate::beside::cell_beside;
 use area_cells::Found;
 use array_geom::{Chunk, Grid};
 use array_rows::{Cells, Form};
 use cell_values::{Cell, ChunkAt, List, Memory, copy_numbers};
-use join_rows::cell_beside;
 use std::cmp::Ordering;
 
 fn cell_of(found: &Found<'_>, grid: &Grid) -> Result<Cell, Memory>

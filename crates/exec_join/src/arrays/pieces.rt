@@ -4,7 +4,7 @@ ghost use Rattle.std.specs.List.{AllByRecursion};
 ghost use Rattle.cell_values.specs.Schemas.{IsValid};
 ghost use Rattle.array_geom.specs.Geometry.{HasFrame, overlaps};
 ghost use Rattle.array_geom.specs.Link.{Is, IsPart, numbers};
-ghost use Rattle.array_parts.specs.Cores.{HaveCells, cores_of, meant_by_cores};
+ghost use Rattle.array_parts.specs.Cores.{HasCells, HaveCells, cores_of, meant_by_cores};
 ghost use Rattle.array_parts.specs.Placed.{HasPlaces};
 ghost use Rattle.chunk_cells.specs.Frames.{HasFrames};
 ghost use Rattle.area_cells.specs.Pieces.{IsPartAt};
@@ -105,9 +105,10 @@ fn join_parts<R: Threads + Sync, G: Gate>(
     over_pieces(crew, pieces, &of)
 }
 
-/// The join of two arrays of which none is broken, chunk by chunk.
+/// The cells of two arrays side by side at each coordinate where both have one, in chunks of this schema, which is that of their
+/// join. What the margins of the two hold doesn't matter.
 #[tactic(auto, using(array_geom::proofs::MarginLaws::overlap_each, array_geom::proofs::MarginLaws::overlap_places))]
-pub(crate) fn by_parts<R: Threads + Sync, G: Gate>(
+pub fn join<R: Threads + Sync, G: Gate>(
     crew: &mut Crew<'_, R, G>,
     left: ChunkedArray,
     right: ChunkedArray,
@@ -115,8 +116,8 @@ pub(crate) fn by_parts<R: Threads + Sync, G: Gate>(
 ) -> Result<ChunkedArray, Memory>
     requires left_whole { left.broken ≡ None }
     requires right_whole { right.broken ≡ None }
-    requires left_cells { HaveCells left.schema left.margins.items left.chunks }
-    requires right_cells { HaveCells right.schema right.margins.items right.chunks }
+    requires left_cells { HasCells left }
+    requires right_cells { HasCells right }
     requires schema { schema.now ≡ join_schema left.schema right.schema }
     requires valid { IsValid schema.now }
     ensures array { IfOk result (λ made. Is made (join_meant schema.now (meant_by_cores left) (meant_by_cores right))) }

@@ -13,7 +13,7 @@ use Rattle.array_geom.specs.Link.{IsPart, chunk_rows}
 use Rattle.array_parts.specs.Made.{IsPlaced}
 use Rattle.chunk_cells.specs.Fitted.{HasValues}
 use Rattle.logical_plan.specs.CellOps.{fit_rows}
-use Rattle.redimension_fill.specs.Inner.Filling.{AreHeld}
+use Rattle.redimension_exec.specs.Inner.Filling.{AreHeld}
 use Rattle.redimension_exec.specs.Inner.Sorting.{AreDifferent}
 
 -- in row-major order, the values fitted to the attributes

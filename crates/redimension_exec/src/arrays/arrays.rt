@@ -68,6 +68,7 @@ pub fn redimension(
     target: &Schema,
     aggs: &[Aggregate],
 ) -> Result<ChunkedArray, Memory>
+    requires whole { array.broken ≡ None }
     requires cells { HasCells array }
     requires valid { IsValid target.now }
     requires typed { IsTrue (redimensions array.schema target.now aggs.now) }
@@ -77,8 +78,5 @@ pub fn redimension(
     if aggs.is_empty() {
         return redimension_cells(array, target);
     }
-    match &array.broken {
-        Some(broken) => broken_target(target, broken),
-        None => of_array(array, target, aggs),
-    }
+    of_array(array, target, aggs)
 }

@@ -6,14 +6,15 @@ ghost use Rattle.array_geom.specs.Geometry.{overlaps};
 ghost use Rattle.array_geom.specs.Link.{Is};
 ghost use Rattle.logical_plan.specs.Meaning.{redimensioned_from};
 ghost use Rattle.logical_plan.specs.Typing.{redimensions};
-ghost use Rattle.redimension_fill.specs.Inner.Filling.{HoldsLanded, no_margins};
+ghost use Rattle.redimension_exec.specs.Inner.Filling.{HoldsLanded, no_margins};
 
 use crate::arrays::building::broken_target;
+use crate::filling::no_margins;
+use crate::moving::filled_in_bands;
 use crate::telling::told_array;
 use area_cells::are_few;
 use array_geom::{Chunk, ChunkedArray};
 use cell_values::{Broken, ChunkAt, Margins, Memory, Schema};
-use redimension_fill::{filled_in_bands, no_margins};
 use std::collections::BTreeMap;
 
 /// The target's chunks with what lands of an array's cores, or the first row that breaks the target, band by band. More cells than
@@ -34,10 +35,12 @@ fn filled_from(
     filled_in_bands(array, target, none)
 }
 
-/// The redimension of an array that is not broken.
-fn of_whole(array: ChunkedArray, target: &Schema) -> Result<ChunkedArray, Memory>
+/// The cells of an array at the coordinates that their values and their own coordinates give the target's dimensions, with the
+/// values of the target's attributes. The first cell in row-major order that has a doubt, a fault among its new numbers, a place
+/// out of the target's bounds or one that is taken breaks the result. What the array's margins hold doesn't matter.
+pub fn redimension_cells(array: ChunkedArray, target: &Schema) -> Result<ChunkedArray, Memory>
     requires whole { array.broken ≡ None }
-    requires cells { HaveCells array.schema array.margins.items array.chunks }
+    requires cells { HasCells array }
     requires valid { IsValid target.now }
     requires typed { IsTrue (redimensions array.schema target.now []) }
     ensures array { IfOk result (λ made. Is made (redimensioned_from target.now [] (meant_by_cores array))) }
@@ -47,21 +50,5 @@ fn of_whole(array: ChunkedArray, target: &Schema) -> Result<ChunkedArray, Memory
     match filled_from(array, target, &none)? {
         Ok(chunks) => told_array(target, &none, chunks),
         Err(broken) => broken_target(target, &broken),
-    }
-}
-
-/// The cells of an array at the coordinates that their values and their own coordinates give the target's dimensions, with the
-/// values of the target's attributes. The first cell in row-major order that has a doubt, a fault among its new numbers, a place
-/// out of the target's bounds or one that is taken breaks the result. What the array's margins hold doesn't matter.
-pub fn redimension_cells(array: ChunkedArray, target: &Schema) -> Result<ChunkedArray, Memory>
-    requires cells { HasCells array }
-    requires valid { IsValid target.now }
-    requires typed { IsTrue (redimensions array.schema target.now []) }
-    ensures array { IfOk result (λ made. Is made (redimensioned_from target.now [] (meant_by_cores array))) }
-    ensures margins { IfOk result (λ made. made.margins.items ≡ overlaps target.now.dimensions) }
-{
-    match &array.broken {
-        Some(broken) => broken_target(target, broken),
-        None => of_whole(array, target),
     }
 }

@@ -4,8 +4,8 @@ ghost use Rattle.array_rows.specs.Boxes.{bounds_of};
 ghost use Rattle.array_geom.specs.Link.{core_rows};
 ghost use Rattle.logical_plan.specs.Redimension.{origin_of};
 ghost use Rattle.group_rows.specs.Counts.{cells_in};
-ghost use Rattle.redimension_fill.specs.Inner.Bands.{AreBands};
-ghost use Rattle.redimension_fill.specs.Inner.Counting.{has_counted};
+ghost use Rattle.redimension_exec.specs.Inner.Bands.{AreBands};
+ghost use Rattle.redimension_exec.specs.Inner.Counting.{has_counted};
 ghost use Rattle.redimension_exec.specs.Inner.Grouping.{AreGroupsLanded};
 
 use crate::arrays::bands::{groups_in_band, groups_in_bands};

@@ -33,7 +33,7 @@ fn told_of(
 
 /// For each coordinate of the target at which cells of an array's cores land, a row with the aggregates that the target's attributes
 /// name; or the first row that breaks the array, and why. Found chunk by chunk, or band by band where a row breaks the array.
-#[tactic(auto, using(redimension_fill::proofs::BandLaws::few_dimensions))]
+#[tactic(auto, using(crate::proofs::BandLaws::few_dimensions))]
 pub(crate) fn gathered_in_bands(
     array: &ChunkedArray,
     target: &Schema,

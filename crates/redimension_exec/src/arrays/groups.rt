@@ -4,14 +4,14 @@ ghost use Rattle.array_rows.specs.Boxes.{bounds_of};
 ghost use Rattle.array_rows.specs.Rows.{IsRising};
 ghost use Rattle.logical_plan.specs.Redimension.{origin_of};
 ghost use Rattle.group_rows.specs.Counts.{cells_in};
-ghost use Rattle.redimension_fill.specs.Inner.Counting.{has_counted};
+ghost use Rattle.redimension_exec.specs.Inner.Counting.{has_counted};
 ghost use Rattle.redimension_exec.specs.Inner.Grouping.{AreGroupsLanded};
 
 use crate::landings::groups_from;
+use crate::places::{bounds_of, places_of_dimensions};
 use cell_values::{Broken, List, Memory, Row, Schema};
 use group_rows::Groups;
 use logical_plan::Aggregate;
-use redimension_fill::{bounds_of, places_of_dimensions};
 
 /// For each coordinate of the target, of which no dimension is synthetic, a state of each aggregate for the cells that land there;
 /// or the first row that breaks the array, and why.

@@ -3,17 +3,17 @@ ghost use Rattle.std.specs.Prelude.{◌≡◌, ◌+◌, ◌<◌, ◌^◌, ◌≤
 ghost use Rattle.array_rows.specs.Rows.{IsRising};
 ghost use Rattle.group_rows.specs.Counts.{cells_in};
 ghost use Rattle.group_rows.specs.Taken.{cells_kept};
-ghost use Rattle.redimension_fill.specs.Inner.Counting.{has_counted};
+ghost use Rattle.redimension_exec.specs.Inner.Counting.{has_counted};
 ghost use Rattle.redimension_exec.specs.Inner.Grouping.{AreGroupsLanded};
-ghost use Rattle.redimension_fill.specs.Inner.Places.{origin};
+ghost use Rattle.redimension_exec.specs.Inner.Places.{origin};
 ghost use Rattle.redimension_exec.specs.Inner.Taking.{IsTaken};
 
+use crate::places::{Place, first_numbers};
 use agg_states::AggState;
 use array_rows::is_in_box;
 use cell_values::{Bounds, Broken, Coord, FaultKind, List, Memory, Row, copy_coord};
 use group_rows::{Groups, groups_in, take_rows};
 use logical_plan::Aggregate;
-use redimension_fill::{Place, first_numbers};
 use std::alloc::Global;
 use std::collections::BTreeMap;
 use std::slice::from_ref;

@@ -1,12 +1,11 @@
 //! Windows of an array, chunk by chunk, each from the rows that its windows reach.
-ghost use Rattle.std.specs.Prelude.{◌≡◌, ◌<◌, ◌^◌, ℕ, None, List as Items, length, IsTrue, IfOk, IfSome};
+ghost use Rattle.std.specs.Prelude.{◌≡◌, ◌<◌, ◌^◌, None, IsTrue, IfOk, IfSome};
 ghost use Rattle.std.specs.List.{AllByRecursion};
 ghost use Rattle.cell_values.specs.Schemas.{IsValid};
-ghost use Rattle.cell_values.specs.declared.schema.Dimension.{Dimension};
 ghost use Rattle.array_rows.specs.Boxes.{within};
 ghost use Rattle.array_geom.specs.Geometry.{HasFrame, frame as frame_of, frame_lengths, frame_low, overlaps};
-ghost use Rattle.array_geom.specs.Link.{Is, IsPart, NumbersRise, core_rows, numbers};
-ghost use Rattle.array_parts.specs.Cores.{HaveCells, cores_of, meant_by_cores};
+ghost use Rattle.array_geom.specs.Link.{Is, IsPart, numbers};
+ghost use Rattle.array_parts.specs.Cores.{HasCells, HaveCells, cores_of, meant_by_cores};
 ghost use Rattle.array_parts.specs.Placed.{HasPlaces};
 ghost use Rattle.chunk_cells.specs.Frames.{HasFrames};
 ghost use Rattle.area_cells.specs.Inner.Filled.{IsFilled};
@@ -211,9 +210,10 @@ fn window_parts<R: Threads + Sync, G: Gate>(
     over_pieces(crew, pieces, &of)
 }
 
-/// The windows of an array that is not broken, chunk by chunk. More cells than can be counted are as good as no memory.
+/// The aggregates of the cells in the window around each cell: an array of the target, chunk by chunk. A cell in doubt stays one.
+/// What the array's margins hold doesn't matter. More cells than can be counted are as good as no memory.
 #[tactic(auto, using(array_geom::proofs::MarginLaws::overlap_each, array_geom::proofs::MarginLaws::overlap_places))]
-pub(crate) fn by_parts<R: Threads + Sync, G: Gate>(
+pub fn window<R: Threads + Sync, G: Gate>(
     crew: &mut Crew<'_, R, G>,
     array: ChunkedArray,
     reach: &[Reach],
@@ -221,7 +221,7 @@ pub(crate) fn by_parts<R: Threads + Sync, G: Gate>(
     target: &Schema,
 ) -> Result<ChunkedArray, Memory>
     requires whole { array.broken ≡ None }
-    requires cells { HaveCells array.schema array.margins.items array.chunks }
+    requires cells { HasCells array }
     requires target { target.now ≡ window_schema aggs.now array.schema }
     requires valid { IsValid target.now }
     requires reach { IsTrue (are_windows_of array.schema reach.now) }

@@ -1,10 +1,7 @@
-use Rattle.logical_plan.specs.Groups.{aggregate_rows}
-use Rattle.logical_plan.specs.PlanSchema.{aggregate_schema}
-use Rattle.group_rows.proofs.WholeLaws.{means_broken, stands_for}
+use Rattle.std.proofs.Common.{sym, ap, ◌∙◌}
+use Rattle.exec_group.specs.Inner.Parts.{has_parts}
+use Rattle.exec_group.proofs.PiecesPartLaws.{no_parts}
 use Rattle.exec_group.proofs.pieces.aggregates.aggregate.Goals as goal
 
-pub returns-in-Some-clause-array : goal.returns-in-Some-clause-array
-returns-in-Some-clause-array g c =
-    stands_for c.broken_array.result _ _
-    (means_broken (aggregate_schema c.args.aggs.now c.args.dims.now) (λ s. aggregate_rows c.args.dims.now c.args.aggs.now) c.args.array c.args.target.now _ c.requires.target c.in-Some.is)
-    c.broken_array.ensures.array
+pub of_none-requires-clause-none : goal.of_none-requires-clause-none
+of_none-requires-clause-none g c = no_parts c.args.dims.now c.args.array.chunks (ap (has_parts c.args.dims.now) (sym c.as_slice.ensures) ∙ sym c.has_parts.ensures ∙ c.if-has_parts.false)

@@ -4,7 +4,7 @@ use Rattle.std.specs.List.{AllByRecursion}
 use Rattle.std.specs.Prelude.{IsTrue}
 use Rattle.array_geom.specs.declared.chunk.Chunk.{Chunk}
 use Rattle.array_geom.specs.Geometry.{HasFrame}
-use Rattle.array_geom.specs.Link.{NumbersRise, is_listed, numbers}
+use Rattle.array_geom.specs.Link.{is_listed, numbers}
 use Rattle.array_geom.proofs.MarginLaws.{overlap_each, overlap_places}
 use Rattle.array_parts.specs.Cores.{HaveCells, cores_of}
 use Rattle.chunk_cells.specs.Inner.Numbers.{numbers_in}

@@ -4,7 +4,7 @@ use Rattle.array_geom.specs.Link.{core_rows}
 use Rattle.chunk_cells.proofs.MergeLaws.{IsRising-core_rows}
 use Rattle.area_cells.proofs.CutLaws.{each_core}
 use Rattle.logical_plan.specs.Redimension.{origin_of}
-use Rattle.redimension_fill.proofs.BandLaws.{back_bands, cut_rows, front_bands}
+use Rattle.redimension_exec.proofs.BandLaws.{back_bands, cut_rows, front_bands}
 use Rattle.redimension_exec.proofs.BandGroups.{whole_breaks_first, whole_breaks_next, whole_landed}
 use Rattle.redimension_exec.proofs.arrays.bands.+groups_in_bands.Goals as goal
 

@@ -8,7 +8,7 @@ use Rattle.array_parts.proofs.CoreLaws.{cores_are_rows}
 use Rattle.area_cells.proofs.PieceLaws.{rise_in_cores}
 use Rattle.logical_plan.specs.Redimension.{origin_of}
 use Rattle.group_rows.specs.Counts.{cells_in}
-use Rattle.redimension_fill.specs.Inner.Bands.{AreBands}
+use Rattle.redimension_exec.specs.Inner.Bands.{AreBands}
 use Rattle.redimension_exec.specs.Inner.Grouping.{AreGroupsLanded}
 use Rattle.redimension_exec.proofs.ArraysGatherLaws.{land_of, told_are, told_values}
 use Rattle.redimension_exec.proofs.OrderLaws.{gathers}

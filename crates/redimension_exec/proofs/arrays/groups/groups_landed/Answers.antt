@@ -1,7 +1,7 @@
 use Rattle.std.proofs.Common.{◌≡◌, ◌∙◌, ap, arith, length, sym}
 use Rattle.std.proofs.lemmas.List.{length-map}
 use Rattle.logical_plan.specs.Redimension.{origin_of}
-use Rattle.redimension_fill.specs.Inner.Places.{origin}
+use Rattle.redimension_exec.specs.Inner.Places.{origin}
 use Rattle.redimension_exec.proofs.arrays.groups.groups_landed.Goals as goal
 
 pub groups_from-requires-clause-few : goal.groups_from-requires-clause-few

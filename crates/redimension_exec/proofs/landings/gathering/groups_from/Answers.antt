@@ -1,5 +1,5 @@
 use Rattle.std.proofs.Common.{map, arith}
-use Rattle.redimension_fill.specs.Inner.Places.{origin}
+use Rattle.redimension_exec.specs.Inner.Places.{origin}
 use Rattle.redimension_exec.proofs.StateLaws.{taken_more, taken_breaks}
 use Rattle.redimension_exec.proofs.landings.gathering.groups_from.Goals as goal
 

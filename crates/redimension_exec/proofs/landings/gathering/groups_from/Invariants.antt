@@ -1,5 +1,5 @@
 use Rattle.std.proofs.Common.{take, map, ◌≤◌}
-use Rattle.redimension_fill.specs.Inner.Places.{origin}
+use Rattle.redimension_exec.specs.Inner.Places.{origin}
 use Rattle.group_rows.specs.Taken.{cells_kept}
 use Rattle.redimension_exec.proofs.StateLaws.{AreTaken}
 use Rattle.redimension_exec.proofs.landings.gathering.groups_from.Given as goal

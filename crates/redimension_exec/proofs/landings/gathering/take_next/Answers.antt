@@ -1,5 +1,5 @@
 use Rattle.std.proofs.Common.{map, sym, arith}
-use Rattle.redimension_fill.specs.Inner.Places.{origin}
+use Rattle.redimension_exec.specs.Inner.Places.{origin}
 use Rattle.redimension_exec.proofs.LandingsGatherLaws.{next_outside, next_taken}
 use Rattle.redimension_exec.proofs.StateLaws.{landed_taken}
 use Rattle.redimension_exec.proofs.landings.gathering.take_next.Goals as goal

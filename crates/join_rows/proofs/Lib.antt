@@ -1,3 +1,0 @@
-pub mod MoveLaws
-pub mod PartnerLaws
-pub mod RowsCrossLaws

@@ -1,6 +1,0 @@
-use Rattle.std.proofs.Common.{◌≡◌, take}
-use Rattle.logical_plan.specs.Typing.{left_places}
-use Rattle.join_rows.proofs.cross.left_places.Given as goal
-
-abbrev pub invariant-loop-pair : goal.invariant-loop-pair
-invariant-loop-pair l = l.places ≡ left_places (take l.pair-index l.pairs)

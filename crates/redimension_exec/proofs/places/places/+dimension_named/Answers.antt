@@ -1,0 +1,15 @@
+use Rattle.std.proofs.Common.{None, Some, sym, ◌∙◌}
+use Rattle.std.specs.Str.{bytes_eq}
+use Rattle.cell_values.specs.declared.schema.Dimension.{Dimension}
+use Rattle.redimension_exec.proofs.FrontLaws.{behind}
+use Rattle.redimension_exec.proofs.places.places.+dimension_named.Goals as goal
+
+pub returns-in-Some-clause-value : goal.returns-in-Some-clause-value
+returns-in-Some-clause-value t c =
+    behind (λ (d : Dimension). bytes_eq d.name c.args.name.now) c.args.dimensions.now c.dimension-item.result (Some c.in-Some.place) c.in-len1-up.len_at_least
+    c.dimension-item.is (sym c.eq.ensures ∙ c.if-eq.false) c.in-Some.ensures.value
+
+pub returns-in-None-clause-value : goal.returns-in-None-clause-value
+returns-in-None-clause-value t c =
+    behind (λ (d : Dimension). bytes_eq d.name c.args.name.now) c.args.dimensions.now c.dimension-item.result None c.in-len1-up.len_at_least c.dimension-item.is
+    (sym c.eq.ensures ∙ c.if-eq.false) c.in-None.ensures.value

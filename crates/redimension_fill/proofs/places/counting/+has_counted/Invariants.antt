@@ -1,5 +1,0 @@
-use Rattle.std.proofs.Common.{length}
-use Rattle.redimension_fill.proofs.places.counting.+has_counted.Given as goal
-
-abbrev pub decreases-has_counted : goal.decreases-has_counted
-decreases-has_counted l = length l.places.now

@@ -1,8 +1,0 @@
-use Rattle.std.proofs.Common.{map, drop}
-use Rattle.redimension_fill.specs.Inner.Places.{origin}
-use Rattle.redimension_fill.proofs.FillLaws.{IsFilling}
-use Rattle.redimension_fill.proofs.places.filling.fill_rows.Given as goal
-
-abbrev pub invariant-loop-row : goal.invariant-loop-row
-invariant-loop-row l =
-    IsFilling l.to.schema.now (map origin l.to.places.now) l.to.bounds.now (map origin l.to.values.now) l.rows (drop l.row-index l.row-items) l.initial.counts l.initial.filled l.counts l.filled

@@ -1,5 +1,0 @@
-use Rattle.std.proofs.Common.{length}
-use Rattle.redimension_fill.proofs.places.places.+dimension_named.Given as goal
-
-abbrev pub decreases-dimension_named : goal.decreases-dimension_named
-decreases-dimension_named l = length l.dimensions.now
