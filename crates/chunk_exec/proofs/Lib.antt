@@ -1,3 +1,4 @@
+mod BrokenLaws
 mod ComputedLaws
 pub mod DatabasePlans
 mod ExecutedLaws

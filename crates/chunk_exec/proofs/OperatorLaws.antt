@@ -3,6 +3,7 @@ use Rattle.std.proofs.Common.{◌≡◌, ℕ, suc, zero, ◌≤◌, ◌^◌, Lis
 use Rattle.std.specs.Prelude.{IfOk}
 use Rattle.cell_values.specs.declared.datum.Broken.{Broken}
 use Rattle.cell_values.specs.declared.datum.Row.{Row}
+use Rattle.cell_values.specs.declared.memory.Memory.{Memory}
 use Rattle.cell_values.specs.declared.schema.Bounds.{Bounds}
 use Rattle.cell_values.specs.declared.schema.Dimension.{Dimension}
 use Rattle.cell_values.specs.declared.schema.Schema.{Schema}
@@ -27,13 +28,17 @@ use Rattle.logical_plan.specs.declared.parts.Pair.{Pair}
 use Rattle.logical_plan.specs.declared.parts.Reach.{Reach}
 use Rattle.logical_plan.specs.CellOps.{filter_rows, apply_rows, project_rows}
 use Rattle.logical_plan.specs.Faults.{if_whole}
-use Rattle.logical_plan.specs.Meaning.{Database, redimensioned_from}
-use Rattle.logical_plan.specs.PlanSchema.{apply_schema, project_schema, schema_of, subarray_schema, slice_schema, regrid_schema, window_schema, aggregate_schema}
+use Rattle.logical_plan.specs.Meaning.{Database, redimensioned_from, sorted_from}
+use Rattle.logical_plan.specs.PlanSchema.{apply_schema, project_schema, schema_of, subarray_schema, slice_schema, regrid_schema, window_schema, aggregate_schema, rank_schema, cumulate_schema}
+use Rattle.logical_plan.specs.ShapeMeant.{concat_meant, merge_meant, reverse_meant, transpose_meant, unpack_meant, xgrid_meant}
+use Rattle.logical_plan.specs.ShapeSchemas.{concat_schema, merge_schema, transpose_schema, xgrid_schema}
 use Rattle.logical_plan.specs.Query.{Query, scanned, filtered, applied, projected, between, subarray, sliced, joined, crossed, redimensioned, regridded, windowed, aggregated}
+use Rattle.logical_plan.specs.Query.{sorted, ranked, cumulated, transposed, reversed, unpacked, xgridded, merged, concatenated}
 use Rattle.logical_plan.specs.Typing.{IsTyped}
 use Rattle.logical_plan.proofs.ArrayLaws.{typed_arrays}
 use Rattle.logical_plan.proofs.SchemaLaws.{typed_valid}
 use Rattle.exec_box.specs.Parts.{part_meant, slice_meant}
+use Rattle.order_exec.specs.Meant.{cumulate_meant, rank_meant}
 use Rattle.chunk_exec.specs.Inner.Operated.{AreMeant, CanOperate, IsResultOf, operated}
 
 -- ---- rows of the schemas of plans
@@ -99,6 +104,13 @@ pub if_ok : {T E : Type 0} (P Q : T → Type 0) (answer : Result T E) → ((made
 if_ok P Q (Ok made) follows h = follows made h
 if_ok P Q (Err e) follows h = tt
 
+-- what a plan's operator makes, where the plan is this one
+pub of_this_plan : (plan query : Query) (arrays : List ChunkedArray) (P : ChunkedArray → Type 0) (answer : Result ChunkedArray Memory) → plan ≡ query → CanOperate plan arrays
+    → ((made : ChunkedArray) → CanOperate query arrays → P made → IsResultOf query arrays made) → IfOk answer P → IfOk answer (IsResultOf plan arrays)
+of_this_plan plan query arrays P answer is can follows h =
+    let same : CanOperate query arrays = subst (λ (z : Query). CanOperate z arrays) is can in
+    subst (λ (z : Query). IfOk answer (IsResultOf z arrays)) (sym is) (if_ok P (IsResultOf query arrays) answer (λ made m. follows made same m) h)
+
 -- ---- the forms of operators
 
 -- what holds of whatever an array stands for, and of whatever two stand for
@@ -130,7 +142,7 @@ by_chunks source query operator array made rows schemas gives dims can schema m 
     }
 
 -- over the cores of an array
-computed_by_cores : (query : Query) (operator : Meant → Meant) (array made : ChunkedArray) → ((m : Meant) → operated query (m ∷ []) ≡ operator m)
+pub computed_by_cores : (query : Query) (operator : Meant → Meant) (array made : ChunkedArray) → ((m : Meant) → operated query (m ∷ []) ≡ operator m)
     → (operator (meant_by_cores array)).schema ≡ schema_of query → Is made (operator (meant_by_cores array)) → IsResultOf query (array ∷ []) made
 computed_by_cores query operator array made meant schema is = record {
   schema_is = is.schema ∙ schema;
@@ -139,7 +151,7 @@ computed_by_cores query operator array made meant schema is = record {
 }
 
 -- over the cores of two arrays
-computed_of_two : (query : Query) (operator : Meant → Meant → Meant) (a b made : ChunkedArray) → ((l r : Meant) → operated query (l ∷ r ∷ []) ≡ operator l r)
+pub computed_of_two : (query : Query) (operator : Meant → Meant → Meant) (a b made : ChunkedArray) → ((l r : Meant) → operated query (l ∷ r ∷ []) ≡ operator l r)
     → (operator (meant_by_cores a) (meant_by_cores b)).schema ≡ schema_of query → Is made (operator (meant_by_cores a) (meant_by_cores b)) → IsResultOf query (a ∷ b ∷ []) made
 computed_of_two query operator a b made meant schema is = record {
   schema_is = is.schema ∙ schema;
@@ -187,3 +199,32 @@ join_result left right schema a b made is = computed_of_two (joined left right s
 
 pub cross_result : (left right : Query) (pairs : List Pair) (schema : Schema) (a b made : ChunkedArray) → Is made (cross_meant schema pairs (meant_by_cores a) (meant_by_cores b)) → IsResultOf (crossed left right pairs schema) (a ∷ b ∷ []) made
 cross_result left right pairs schema a b made is = computed_of_two (crossed left right pairs schema) (cross_meant schema pairs) a b made (λ l r. refl) refl is
+
+pub sort_result : (source : Query) (keys : List ℕ) (schema : Schema) (array made : ChunkedArray) → Is made (sorted_from keys schema (meant_by_cores array)) → IsResultOf (sorted source keys schema) (array ∷ []) made
+sort_result source keys schema array made is = computed_by_cores (sorted source keys schema) (sorted_from keys schema) array made (λ m. refl) refl is
+
+pub rank_result : (source : Query) (x : ℕ) (dims : List ℕ) (array made : ChunkedArray) → CanOperate (ranked source x dims) (array ∷ []) → Is made (rank_meant x dims (meant_by_cores array)) → IsResultOf (ranked source x dims) (array ∷ []) made
+rank_result source x dims array made can is = computed_by_cores (ranked source x dims) (rank_meant x dims) array made (λ m. refl) (ap (rank_schema x) can.schemas.0) is
+
+pub cumulate_result : (source : Query) (gs : List Aggregate) (n : ℕ) (array made : ChunkedArray) → CanOperate (cumulated source gs n) (array ∷ []) → Is made (cumulate_meant gs n (meant_by_cores array)) → IsResultOf (cumulated source gs n) (array ∷ []) made
+cumulate_result source gs n array made can is = computed_by_cores (cumulated source gs n) (cumulate_meant gs n) array made (λ m. refl) (ap (cumulate_schema gs) can.schemas.0) is
+
+pub transpose_result : (source : Query) (array made : ChunkedArray) → CanOperate (transposed source) (array ∷ []) → Is made (transpose_meant (meant_by_cores array)) → IsResultOf (transposed source) (array ∷ []) made
+transpose_result source array made can is = computed_by_cores (transposed source) transpose_meant array made (λ m. refl) (ap transpose_schema can.schemas.0) is
+
+pub reverse_result : (source : Query) (array made : ChunkedArray) → CanOperate (reversed source) (array ∷ []) → Is made (reverse_meant (meant_by_cores array)) → IsResultOf (reversed source) (array ∷ []) made
+reverse_result source array made can is = computed_by_cores (reversed source) reverse_meant array made (λ m. refl) can.schemas.0 is
+
+pub unpack_result : (source : Query) (schema : Schema) (array made : ChunkedArray) → Is made (unpack_meant schema (meant_by_cores array)) → IsResultOf (unpacked source schema) (array ∷ []) made
+unpack_result source schema array made is = computed_by_cores (unpacked source schema) (unpack_meant schema) array made (λ m. refl) refl is
+
+pub xgrid_result : (source : Query) (sizes : List ℕ) (array made : ChunkedArray) → CanOperate (xgridded source sizes) (array ∷ []) → Is made (xgrid_meant sizes (meant_by_cores array)) → IsResultOf (xgridded source sizes) (array ∷ []) made
+xgrid_result source sizes array made can is = computed_by_cores (xgridded source sizes) (xgrid_meant sizes) array made (λ m. refl) (ap (xgrid_schema sizes) can.schemas.0) is
+
+pub merge_result : (left right : Query) (a b made : ChunkedArray) → CanOperate (merged left right) (a ∷ b ∷ []) → Is made (merge_meant (meant_by_cores a) (meant_by_cores b)) → IsResultOf (merged left right) (a ∷ b ∷ []) made
+merge_result left right a b made can is =
+    computed_of_two (merged left right) merge_meant a b made (λ l r. refl) (ap (λ (s : Schema). merge_schema s b.schema) can.schemas.0 ∙ ap (merge_schema (schema_of left)) can.schemas.1.0) is
+
+pub concat_result : (left right : Query) (a b made : ChunkedArray) → CanOperate (concatenated left right) (a ∷ b ∷ []) → Is made (concat_meant (meant_by_cores a) (meant_by_cores b)) → IsResultOf (concatenated left right) (a ∷ b ∷ []) made
+concat_result left right a b made can is =
+    computed_of_two (concatenated left right) concat_meant a b made (λ l r. refl) (ap (λ (s : Schema). concat_schema s b.schema) can.schemas.0 ∙ ap (concat_schema (schema_of left)) can.schemas.1.0) is

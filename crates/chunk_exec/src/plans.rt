@@ -5,7 +5,7 @@ mod given;
 mod leaf;
 mod needed;
 mod operators;
+mod results;
 mod running;
-mod steps;
 
 pub use running::execute;

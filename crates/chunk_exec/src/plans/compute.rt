@@ -7,7 +7,7 @@ ghost use Rattle.logical_plan.specs.Leaves.{leaves};
 ghost use Rattle.chunk_exec.specs.Computed.{CanCompute, IsComputed, asked_in_boxes};
 
 use crate::plans::leaf::given_array;
-use crate::plans::operators::{of_one, of_two};
+use crate::plans::results::{binary_result, unary_result};
 use afl_outside::Gate;
 use array_geom::ChunkedArray;
 use cell_values::Bounds;
@@ -72,7 +72,7 @@ fn over_one<S: ChunkSource, R: Threads + Sync, G: Gate>(
     ensures start { S.start source.new ≡ S.start source.old }
 {
     let array = compute(crew, alloc, from, source, next, boxes)?;
-    Ok(of_one(crew, alloc, plan, from, node, array)?)
+    Ok(unary_result(crew, alloc, plan, from, node, array)?)
 }
 
 /// The array of a plan of two sources.
@@ -101,5 +101,5 @@ fn over_two<S: ChunkSource, R: Threads + Sync, G: Gate>(
 {
     let a = compute(crew, alloc, left, source, next, boxes)?;
     let b = compute(crew, alloc, right, source, next, boxes)?;
-    Ok(of_two(crew, plan, left, right, node, a, b)?)
+    Ok(binary_result(crew, alloc, plan, left, right, node, a, b)?)
 }

@@ -35,15 +35,15 @@ over_two-compute-requires-2 g t c κs within =
 pub over_one-returns-clause-computed : goal.over_one-returns-clause-computed
 over_one-returns-clause-computed g t c =
     computed_one c.args.next.now (drop c.args.next.now c.args.boxes.now) (g.S.ChunkSource.state c.args.source.now) (g.S.ChunkSource.state c.compute.new.source) c.args.plan.now c.args.from.now
-    c.in_ok-array.array c.in_ok-of_one.field-0 (one_source c.args.plan.now c.args.from.now c.args.node c.requires.node) c.in_ok-array.ensures.computed c.in_ok-of_one.ensures
+    c.in_ok-array.array c.in_ok-unary_result.field-0 (one_source c.args.plan.now c.args.from.now c.args.node c.requires.node) c.in_ok-array.ensures.computed c.in_ok-unary_result.ensures
 
 pub over_one-returns-in_err-array-clause-front : goal.over_one-returns-in_err-array-clause-front
 over_one-returns-in_err-array-clause-front g t c =
     on_err c.from_residual.result _ (front_one c.args.plan.now c.args.next.now c.args.boxes.now (g.S.ChunkSource.state c.args.source.now) (g.S.ChunkSource.state c.compute.new.source) c.args.from.now (one_source c.args.plan.now c.args.from.now c.args.node c.requires.node) c.in_err-array.ensures.front)
 
-pub over_one-returns-in_err-of_one-clause-front : goal.over_one-returns-in_err-of_one-clause-front
-over_one-returns-in_err-of_one-clause-front g t c =
-    on_err c.from_residual-in_err-of_one.result _ (front_made c.args.plan.now c.args.next.now c.args.boxes.now (g.S.ChunkSource.state c.args.source.now) (g.S.ChunkSource.state c.compute.new.source) c.args.from.now (one_source c.args.plan.now c.args.from.now c.args.node c.requires.node)
+pub over_one-returns-in_err-unary_result-clause-front : goal.over_one-returns-in_err-unary_result-clause-front
+over_one-returns-in_err-unary_result-clause-front g t c =
+    on_err c.from_residual-in_err-unary_result.result _ (front_made c.args.plan.now c.args.next.now c.args.boxes.now (g.S.ChunkSource.state c.args.source.now) (g.S.ChunkSource.state c.compute.new.source) c.args.from.now (one_source c.args.plan.now c.args.from.now c.args.node c.requires.node)
     c.in_ok-array.array c.in_ok-array.ensures.computed)
 
 pub over_two-returns-clause-computed : goal.over_two-returns-clause-computed
@@ -51,8 +51,8 @@ over_two-returns-clause-computed g t c =
     let left = c.in_ok-a.ensures in
     let enough = (enough_for_both c.args.next.now c.args.boxes.now c.args.plan.now c.args.left.now c.args.right.now (two_sources c.args.plan.now c.args.left.now c.args.right.now c.args.node c.requires.node) c.requires.enough).0 in
     computed_two c.args.next.now c.compute.new.next c.args.boxes.now (g.S.ChunkSource.state c.args.source.now) (g.S.ChunkSource.state c.compute.new.source) (g.S.ChunkSource.state c.compute-2.new.source)
-    c.args.plan.now c.args.left.now c.args.right.now c.in_ok-a.a c.in_ok-b.b c.in_ok-of_two.field-0
-    (two_sources c.args.plan.now c.args.left.now c.args.right.now c.args.node c.requires.node) left.kept left.next enough left.computed c.in_ok-b.ensures.computed c.in_ok-of_two.ensures
+    c.args.plan.now c.args.left.now c.args.right.now c.in_ok-a.a c.in_ok-b.b c.in_ok-binary_result.field-0
+    (two_sources c.args.plan.now c.args.left.now c.args.right.now c.args.node c.requires.node) left.kept left.next enough left.computed c.in_ok-b.ensures.computed c.in_ok-binary_result.ensures
 
 pub over_two-returns-clause-next : goal.over_two-returns-clause-next
 over_two-returns-clause-next g t c =
@@ -70,11 +70,11 @@ over_two-returns-in_err-b-clause-front g t c =
     on_err c.from_residual-in_err-b.result _ (front_right c.args.plan.now c.args.next.now c.args.boxes.now (g.S.ChunkSource.state c.args.source.now) (g.S.ChunkSource.state c.compute-2.new.source) c.compute.new.next (g.S.ChunkSource.state c.compute.new.source)
     c.args.left.now c.args.right.now c.in_ok-a.a (two_sources c.args.plan.now c.args.left.now c.args.right.now c.args.node c.requires.node) left.kept left.next enough left.computed c.in_err-b.ensures.front)
 
-pub over_two-returns-in_err-of_two-clause-front : goal.over_two-returns-in_err-of_two-clause-front
-over_two-returns-in_err-of_two-clause-front g t c =
+pub over_two-returns-in_err-binary_result-clause-front : goal.over_two-returns-in_err-binary_result-clause-front
+over_two-returns-in_err-binary_result-clause-front g t c =
     let left = c.in_ok-a.ensures in
     let enough = (enough_for_both c.args.next.now c.args.boxes.now c.args.plan.now c.args.left.now c.args.right.now (two_sources c.args.plan.now c.args.left.now c.args.right.now c.args.node c.requires.node) c.requires.enough).0 in
-    on_err c.from_residual-in_err-of_two.result _ (front_both c.args.plan.now c.args.next.now c.args.boxes.now (g.S.ChunkSource.state c.args.source.now) (g.S.ChunkSource.state c.compute-2.new.source) c.compute.new.next (g.S.ChunkSource.state c.compute.new.source)
+    on_err c.from_residual-in_err-binary_result.result _ (front_both c.args.plan.now c.args.next.now c.args.boxes.now (g.S.ChunkSource.state c.args.source.now) (g.S.ChunkSource.state c.compute-2.new.source) c.compute.new.next (g.S.ChunkSource.state c.compute.new.source)
     c.args.left.now c.args.right.now c.in_ok-a.a c.in_ok-b.b (two_sources c.args.plan.now c.args.left.now c.args.right.now c.args.node c.requires.node) left.kept left.next enough left.computed c.in_ok-b.ensures.computed)
 
 pub over_two-returns-clause-kept : goal.over_two-returns-clause-kept
@@ -85,8 +85,8 @@ pub over_two-returns-in_err-b-clause-kept : goal.over_two-returns-in_err-b-claus
 over_two-returns-in_err-b-clause-kept g t c =
     keeps_on (g.S.ChunkSource.state c.args.source.now) (g.S.ChunkSource.state c.compute.new.source) (g.S.ChunkSource.state c.compute-2.new.source) c.in_ok-a.ensures.kept c.in_err-b.ensures.kept
 
-pub over_two-returns-in_err-of_two-clause-kept : goal.over_two-returns-in_err-of_two-clause-kept
-over_two-returns-in_err-of_two-clause-kept g t c =
+pub over_two-returns-in_err-binary_result-clause-kept : goal.over_two-returns-in_err-binary_result-clause-kept
+over_two-returns-in_err-binary_result-clause-kept g t c =
     keeps_on (g.S.ChunkSource.state c.args.source.now) (g.S.ChunkSource.state c.compute.new.source) (g.S.ChunkSource.state c.compute-2.new.source) c.in_ok-a.ensures.kept c.in_ok-b.ensures.kept
 
 pub over_one-returns-clause-next : goal.over_one-returns-clause-next
@@ -94,13 +94,13 @@ over_one-returns-clause-next g t c =
     c.in_ok-array.ensures.next
     ∙ ap (λ (z : List Leaf). c.args.next.now + length z) (sym (leaves_of_one c.args.plan.now c.args.from.now (one_source c.args.plan.now c.args.from.now c.args.node c.requires.node)))
 
-pub over_one-of_one-requires-clause-can : goal.over_one-of_one-requires-clause-can
-over_one-of_one-requires-clause-can g t c κs within =
+pub over_one-unary_result-requires-clause-can : goal.over_one-unary_result-requires-clause-can
+over_one-unary_result-requires-clause-can g t c κs within =
     let made = c.in_ok-array.ensures.computed in
     can_operate_one c.args.plan.now c.args.from.now c.in_ok-array.array (one_source c.args.plan.now c.args.from.now c.args.node c.requires.node) c.requires.can.typed made.schema_is made.cells
 
-pub over_two-of_two-requires-clause-can : goal.over_two-of_two-requires-clause-can
-over_two-of_two-requires-clause-can g t c κs within =
+pub over_two-binary_result-requires-clause-can : goal.over_two-binary_result-requires-clause-can
+over_two-binary_result-requires-clause-can g t c κs within =
     let left = c.in_ok-a.ensures.computed in
     let right = c.in_ok-b.ensures.computed in
     can_operate_two c.args.plan.now c.args.left.now c.args.right.now c.in_ok-a.a c.in_ok-b.b (two_sources c.args.plan.now c.args.left.now c.args.right.now c.args.node c.requires.node) c.requires.can.typed left.schema_is
@@ -112,5 +112,5 @@ over_two-returns-clause-start g t c = c.in_ok-b.ensures.start ∙ c.in_ok-a.ensu
 pub over_two-returns-in_err-b-clause-start : goal.over_two-returns-in_err-b-clause-start
 over_two-returns-in_err-b-clause-start g t c = c.in_err-b.ensures.start ∙ c.in_ok-a.ensures.start
 
-pub over_two-returns-in_err-of_two-clause-start : goal.over_two-returns-in_err-of_two-clause-start
-over_two-returns-in_err-of_two-clause-start g t c = c.in_ok-b.ensures.start ∙ c.in_ok-a.ensures.start
+pub over_two-returns-in_err-binary_result-clause-start : goal.over_two-returns-in_err-binary_result-clause-start
+over_two-returns-in_err-binary_result-clause-start g t c = c.in_ok-b.ensures.start ∙ c.in_ok-a.ensures.start
