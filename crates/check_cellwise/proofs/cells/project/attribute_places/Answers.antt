@@ -4,7 +4,7 @@ use Rattle.check_rules.proofs.Turns.{turn_on}
 use Rattle.check_rules.specs.Checked.{Answers}
 use Rattle.check_rules.specs.InTurn.{in_turn}
 use Rattle.check_cellwise.proofs.Stops.{handed_on, turn_stops}
-use Rattle.check_cellwise.proofs.cells.project.projected_all.Goals as goal
+use Rattle.check_cellwise.proofs.cells.project.attribute_places.Goals as goal
 
 pub loop-name-preserved : goal.loop-name-preserved
 loop-name-preserved c =

@@ -1,7 +1,7 @@
 use Rattle.std.proofs.Common.{◌∙◌}
 use Rattle.check_groups.specs.Blocks.{block_one}
 use Rattle.check_rules.proofs.Turns.{turn_on}
-use Rattle.check_groups.proofs.groups.regrid.sizes_of.Goals as goal
+use Rattle.check_groups.proofs.groups.regrid.block_sizes.Goals as goal
 
 pub loop-number-preserved : goal.loop-number-preserved
 loop-number-preserved c =

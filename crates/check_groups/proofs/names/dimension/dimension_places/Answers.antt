@@ -1,7 +1,7 @@
 use Rattle.std.proofs.Common.{◌≡◌, ◌∙◌, ℕ, List, Ok, subst}
 use Rattle.check_groups.specs.Names.{dimension_one}
 use Rattle.check_rules.proofs.Turns.{turn_on}
-use Rattle.check_groups.proofs.groups.aggregate.places_of.Goals as goal
+use Rattle.check_groups.proofs.names.dimension.dimension_places.Goals as goal
 
 pub loop-name-preserved : goal.loop-name-preserved
 loop-name-preserved c =
