@@ -58,14 +58,14 @@ one_or_more : (s : Span) (o : Option ℤ) → IfOk (at_least (pos 1) s o) (λ n.
 one_or_more s (Some z) = demanded (λ (n : ℕ). nat_le 1 n ≡ true) (int_le (pos 1) z) s OutOfRange _ (λ e. at_least_one z e)
 one_or_more s None = tt
 
-abbrev AreSizes : List ℕ → Type 0
+abbrev pub AreSizes : List ℕ → Type 0
 AreSizes sizes = list_all (λ size. nat_le 1 size) sizes ≡ true
 
 if_ok : {A : Type 0} (r : Checked A) (P Q : A → Type 0) → ((a : A) → P a → Q a) → IfOk r P → IfOk r Q
 if_ok (Ok a) P Q f h = f a h
 if_ok r P Q f h = tt
 
-sizes_kept : (numbers : List Term) → IfOk (in_turn block_one [] numbers) AreSizes
+pub sizes_kept : (numbers : List Term) → IfOk (in_turn block_one [] numbers) AreSizes
 sizes_kept numbers =
     turns_keep (λ t. Unit {0}) AreSizes block_one
     (λ done t asked kept. if_ok (block_one done t) (λ n. nat_le 1 n ≡ true) (λ n. AreSizes (done ++ n ∷ []))

@@ -53,6 +53,13 @@ fn product_of(sizes: &[u64]) -> u64
     }
 }
 
+/// Whether a block has at most 65,536 places.
+fn is_small(sizes: &[u64]) -> bool
+    ensures { result ≡ nat_le (product_of sizes.now) 65536 }
+{
+    product_of(sizes) <= MAX_BLOCK
+}
+
 /// That each new high bound is a bound, and then another rule.
 fn check_bounds(
     dimensions: &[Dimension],
@@ -83,9 +90,8 @@ fn with_sizes(
 ) -> Result<List<u64>, TypeFault>
     ensures { Answers result (with_sizes span source.now arguments.now sizes) }
 {
-    let is_small = product_of(sizes.as_slice()) <= MAX_BLOCK;
     let last = Rule {
-        holds: is_small,
+        holds: is_small(sizes.as_slice()),
         span,
         kind: TypeKind::OutOfRange,
     };
