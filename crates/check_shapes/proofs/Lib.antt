@@ -8,3 +8,4 @@ pub mod PairsFit
 pub mod Places
 pub mod Room
 pub mod ShapesFit
+mod WorkedShapes

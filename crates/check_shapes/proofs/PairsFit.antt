@@ -49,7 +49,7 @@ longer_count [] right = refl
 longer_count (l ∷ left) [] = refl
 longer_count (l ∷ left) (r ∷ right) = refl
 
-farther : (d : Dimension) (n : ℕ) → d.lo ≤ℤ d.hi → d.lo ≤ℤ d.hi +ℤ pos n
+farther : (d : Dimension) (n : ℕ) → d.lo ≤ℤ d.hi → d.lo ≤ℤ (d.hi +ℤ pos n)
 farther d n order = omega (arith, ints, order)
 
 all_longer : (left right : List Dimension) → has_room_behind left right ≡ true → list_all is_dimension left ≡ true → list_all is_dimension (lengthened left right) ≡ true

@@ -24,7 +24,7 @@ const GREATEST_BOUND: i64 = 4611686018427387903;
 const MAX_BLOCK: u64 = 65536;
 
 /// The last place of the last block, or the greatest number where it is beyond.
-#[tactic(auto, using(plan_schemas::proofs::Farther::farther))]
+#[tactic(auto, using(crate::proofs::Room::farther))]
 fn last_of_blocks(dimension: &Dimension, size: u64) -> i64
     ensures { result ≡ saturate_signed w64 (last_place dimension.now size dimension.now.hi) }
 {
@@ -69,14 +69,20 @@ fn check_bounds(
 ) -> Result<(), TypeFault>
     ensures { Answers result (all_hold (bound_rules dimensions.now sizes.now arguments.now last)) }
 {
-    match (dimensions, sizes, arguments) {
-        ([dimension, dimensions @ ..], [size, sizes @ ..], [argument, arguments @ ..]) => {
-            if !has_room(dimension, *size) {
-                return Err(broken(argument.span, TypeKind::BoundsRange));
-            }
-            check_bounds(dimensions, sizes, arguments, last)
-        }
-        _ => all_hold(&[last]),
+    match dimensions {
+        [] => all_hold(&[last]),
+        [dimension, dimensions @ ..] => match sizes {
+            [] => all_hold(&[last]),
+            [size, sizes @ ..] => match arguments {
+                [] => all_hold(&[last]),
+                [argument, arguments @ ..] => {
+                    if !has_room(dimension, *size) {
+                        return Err(broken(argument.span, TypeKind::BoundsRange));
+                    }
+                    check_bounds(dimensions, sizes, arguments, last)
+                }
+            },
+        },
     }
 }
 
