@@ -104,12 +104,7 @@ fn has_room_behind(left: &[Dimension], right: &[Dimension]) -> bool
 }
 
 /// Checks the rules of `concat` over sources of these schemas, the left one's content at a place. `span` is that of the whole call.
-pub fn check_concat(
-    span: Span,
-    at: Span,
-    left: &Schema,
-    right: &Schema,
-) -> Result<(), TypeFault>
+pub fn check_concat(span: Span, at: Span, left: &Schema, right: &Schema) -> Result<(), TypeFault>
     ensures { Answers result (all_hold (concat_rules span at left.now right.now)) }
 {
     all_hold(&[

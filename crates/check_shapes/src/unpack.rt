@@ -24,10 +24,7 @@ fn numbers_of(dimension: &Dimension) -> Result<Attribute, Memory>
 }
 
 /// Adds each dimension as an attribute.
-fn push_numbers(
-    attributes: &mut List<Attribute>,
-    dimensions: &[Dimension],
-) -> Result<(), Memory>
+fn push_numbers(attributes: &mut List<Attribute>, dimensions: &[Dimension]) -> Result<(), Memory>
     ensures { OnOk result (attributes.new ≡ attributes.old ++ map numbers_of dimensions.now) }
 {
     match dimensions {

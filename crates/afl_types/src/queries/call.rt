@@ -104,10 +104,8 @@ impl OverSource {
             OverSource::Transpose | OverSource::Reverse => count == 0,
             OverSource::Filter | OverSource::Unpack => count == 1,
             OverSource::Apply | OverSource::Slice => are_pairs(count),
-            OverSource::Project
-            | OverSource::Redimension
-            | OverSource::Sort
-            | OverSource::Rank => 1 <= count,
+            OverSource::Project | OverSource::Redimension | OverSource::Sort | OverSource::Rank => 1
+                <= count,
             OverSource::Between
             | OverSource::Subarray
             | OverSource::Regrid

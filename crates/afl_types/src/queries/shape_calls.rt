@@ -56,11 +56,7 @@ pub(crate) fn unpack_call(
     ensures { Answers result (by_schema Unpack span shape.now source arguments.now) }
 {
     match unpack_parts(alloc, span, shape, arguments) {
-        Ok(schema) => of_made(
-            alloc,
-            span,
-            Plan::unpack(alloc, source, schema),
-        ),
+        Ok(schema) => of_made(alloc, span, Plan::unpack(alloc, source, schema)),
         Err(fault) => {
             let_go(source);
             Err(fault)
@@ -80,11 +76,7 @@ pub(crate) fn xgrid_call(
     ensures { Answers result (by_schema Xgrid span shape.now source arguments.now) }
 {
     match xgrid_parts(alloc, span, shape, arguments) {
-        Ok(sizes) => of_made(
-            alloc,
-            span,
-            Plan::xgrid(alloc, source, sizes),
-        ),
+        Ok(sizes) => of_made(alloc, span, Plan::xgrid(alloc, source, sizes)),
         Err(fault) => {
             let_go(source);
             Err(fault)
