@@ -1,5 +1,5 @@
 -- What holds of the parts of `sort` and `rank`: they fit the source, and the schema of the result is valid where it is within the limits.
-use Rattle.std.proofs.Common.{◌≡◌, ℕ, ◌+◌, ◌^◌, ◌<◌, ◌≤◌, Bool, true, false, not, ◌&&◌, ◌||◌, ◌⊎◌, inl, inr, Option, Some, None, Ok, IfOk, List, [], ◌∷◌, ◌++◌, length, take, refl, sym, ap, subst, ◌∙◌, arith}
+use Rattle.std.proofs.Common.{◌≡◌, ℕ, ◌+◌, ◌<◌, ◌≤◌, true, false, not, ◌&&◌, ◌||◌, ◌⊎◌, inl, inr, Option, Some, None, IfOk, List, [], ◌∷◌, ◌++◌, length, refl, sym, ap, subst, ◌∙◌, arith}
 use Rattle.std.specs.Prelude.{codes, nat_le, slice_get, get_or}
 use Rattle.std.specs.List.{cons_option}
 use Rattle.std.specs.Option.{option_map}
@@ -25,7 +25,7 @@ use Rattle.check_rules.specs.Sorts.{is_name, first_but, unless_other}
 use Rattle.check_rules.proofs.OperatorsHolding.{IsWithin}
 use Rattle.check_rules.proofs.Names.{apart_behind, differ_back, distinct_between, distinct_front}
 use Rattle.check_rules.proofs.Turns.{turns_count}
-use Rattle.check_rules.proofs.ValidSchemas.{ValidParts, valid_parts, valid_of_parts, has_some}
+use Rattle.check_rules.proofs.ValidSchemas.{ValidParts, valid_parts, valid_of_parts}
 use Rattle.check_exprs.specs.Expressions.{attribute_place}
 use Rattle.check_cellwise.specs.Project.{projected_one}
 use Rattle.check_groups.specs.Names.{dimension_one, short_name}

@@ -1,7 +1,7 @@
 -- What holds of the parts of `reverse`, `unpack` and `xgrid`: they fit the source, and the schema of the result is valid where it is within
 -- the limits. So is that of `transpose`.
-use Rattle.std.proofs.Common.{◌≡◌, ℕ, suc, ◌+◌, ◌≤◌, ℤ, pos, ◌≤ℤ◌, Bool, true, false, not, ◌&&◌, ◌||◌, ◌==◌, Ok, Some, None, Option, IfOk, List, [], ◌∷◌, ◌++◌, length, map, refl, sym, ap, subst, ◌∙◌, arith}
-use Rattle.std.specs.Prelude.{int_le, nat_le, reverse}
+use Rattle.std.proofs.Common.{◌≡◌, ℕ, suc, ◌+◌, ◌≤◌, ℤ, ◌≤ℤ◌, Bool, true, false, not, ◌&&◌, ◌||◌, ◌==◌, Ok, Some, None, Option, IfOk, List, [], ◌∷◌, ◌++◌, length, map, refl, sym, ap, ◌∙◌, arith}
+use Rattle.std.specs.Prelude.{nat_le, reverse}
 use Rattle.std.specs.List.{list_all}
 use Rattle.std.proofs.lemmas.Bool.{and_parts, and_from, not-true, leb-true, eqb-true}
 use Rattle.std.proofs.lemmas.Int.{ints}
@@ -26,7 +26,7 @@ use Rattle.check_rules.proofs.RulesHolding.{demanded, thens, of_answer}
 use Rattle.check_rules.specs.InTurn.{in_turn}
 use Rattle.check_rules.specs.Sorts.{is_number, first_but, unless_other}
 use Rattle.check_rules.proofs.OperatorsHolding.{IsWithin}
-use Rattle.check_rules.proofs.Names.{among_neither, among_parts, distinct_behind, distinct_between, or_none}
+use Rattle.check_rules.proofs.Names.{among_neither, among_parts, distinct_behind, distinct_between}
 use Rattle.check_rules.proofs.Turns.{turns_count}
 use Rattle.check_rules.proofs.ValidSchemas.{ValidParts, valid_parts, valid_of_parts}
 use Rattle.check_groups.specs.Blocks.{block_one}

@@ -1,8 +1,7 @@
 -- Worked examples of the rules, over a source with the attributes `v` of numbers, `s` of texts and `b` of truths and the dimensions `x` and `y`.
-use Rattle.std.proofs.Common.{◌≡◌, ℕ, ℤ, pos, true, false, Ok, List, [], ◌∷◌, refl}
+use Rattle.std.proofs.Common.{◌≡◌, ℕ, pos, true, false, Ok, List, [], ◌∷◌, refl}
 use Rattle.std.specs.Prelude.{codes}
 use Rattle.cell_values.specs.declared.name.Span.{Span}
-use Rattle.cell_values.specs.declared.schema.Attribute.{Attribute}
 use Rattle.cell_values.specs.declared.schema.Dimension.{Dimension}
 use Rattle.cell_values.specs.declared.schema.Kind.TheVariants.{Int64, Str, Bool as Truths}
 use Rattle.cell_values.specs.declared.schema.Schema.{Schema}

@@ -1,5 +1,5 @@
 -- `unpack`: a name that no dimension or attribute has.
-use Rattle.std.specs.Prelude.{ℕ, not, Ok, List, [], ◌∷◌, ◌++◌}
+use Rattle.std.specs.Prelude.{ℕ, not, Ok, List, [], ◌∷◌}
 use Rattle.cell_values.specs.declared.name.Span.{Span}
 use Rattle.cell_values.specs.declared.schema.Schema.{Schema}
 use Rattle.cell_values.specs.Schemas.{attribute_names, dimension_names, is_among}
