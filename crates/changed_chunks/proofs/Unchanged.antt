@@ -46,7 +46,7 @@ use Rattle.plan_changes.specs.declared.change.Change.TheVariants.{Store}
 use Rattle.plan_changes.proofs.FitLaws.{fit_is, fitted_cell, fitted_row}
 use Rattle.changed_chunks.specs.Changing.{IsAnswerOver}
 use Rattle.changed_chunks.specs.Inner.Input.{CanBeStored, IsFound, fitted_cores}
-use Rattle.changed_chunks.specs.Inner.Unchanged.{AreNumbers, AreNumbersAt, HaveNoFault, IsStorable, MayStandAt, MayStandFrom, StandsAlone}
+use Rattle.changed_chunks.specs.Inner.Unchanged.{AreNumbers, AreNumbersAt, HaveNoFault, IsStorable, MayStandAt, MayStandFrom, IsStorableChunk}
 use Rattle.changed_chunks.specs.Inner.Writes.{IsStoreOf}
 use Rattle.changed_chunks.proofs.ChunkLaws.{sound_cores, stored_chunks}
 use Rattle.changed_chunks.proofs.Rows.{found_there}
@@ -95,7 +95,7 @@ sound_each : (attributes : List Attribute) (cells : List Cell) → 0 < length at
 sound_each attributes [] some are = tt
 sound_each attributes (cell ∷ cells) some are = (sound_cell attributes cell some are.0, sound_each attributes cells some are.1)
 
-sound_all : (schema : Schema) (margins : List ℕ) (chunks : List Chunk) → AllByRecursion (StandsAlone schema margins) chunks → AllByRecursion (HasSoundCells schema) chunks
+sound_all : (schema : Schema) (margins : List ℕ) (chunks : List Chunk) → AllByRecursion (IsStorableChunk schema margins) chunks → AllByRecursion (HasSoundCells schema) chunks
 sound_all schema margins [] are = tt
 sound_all schema margins (chunk ∷ chunks) are = (are.0.sound, sound_all schema margins chunks are.1)
 
@@ -260,7 +260,7 @@ own_part schema margins chunk places = record {
 }
 
 all_chunks : (schema : Schema) (margins : List ℕ) (chunks : List Chunk) → AllByRecursion (HasPlaces schema margins) chunks → AllByRecursion (λ chunk. AreRowsOf schema (chunk_rows schema.dimensions margins chunk)) chunks
-    → AllByRecursion (StandsAlone schema margins) chunks → AllByRecursion (IsChunk schema margins) chunks
+    → AllByRecursion (IsStorableChunk schema margins) chunks → AllByRecursion (IsChunk schema margins) chunks
 all_chunks schema margins [] places rows are = tt
 all_chunks schema margins (chunk ∷ chunks) places rows are = (
   valid_chunk schema margins (chunk_rows schema.dimensions margins chunk) chunk (own_part schema margins chunk places.0) rows.0 places.0 are.0.held,

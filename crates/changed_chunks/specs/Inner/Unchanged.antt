@@ -34,7 +34,7 @@ abbrev pub HaveNoFault : List Cell → Type 0
 HaveNoFault cells = (k : ℕ) → k < length cells → fault_of_cell (slice_index_or cells k (Full [])) ≡ None
 
 -- a chunk with a cell in its core, none of whose cells has a fault, or a null where none may be
-pub record StandsAlone (schema : Schema) (margins : List ℕ) (chunk : Chunk) : Type 0 where
+pub record IsStorableChunk (schema : Schema) (margins : List ℕ) (chunk : Chunk) : Type 0 where
   pub held : IsTrue (holds_cell schema.dimensions margins chunk)
   pub sound : AllByRecursion (λ cell. IsTrue (is_sound schema.attributes cell)) chunk.cells
 
@@ -44,4 +44,4 @@ pub record IsStorable (schema : Schema) (array : ChunkedArray) : Type 0 where
   pub some : 0 < length schema.attributes
   pub same : array.schema ≡ schema
   pub margins : array.margins.items ≡ overlaps schema.dimensions
-  pub chunks : AllByRecursion (StandsAlone array.schema array.margins.items) array.chunks
+  pub chunks : AllByRecursion (IsStorableChunk array.schema array.margins.items) array.chunks

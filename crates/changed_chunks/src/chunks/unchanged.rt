@@ -5,7 +5,7 @@ ghost use Rattle.array_parts.specs.Cores.{HasCells};
 ghost use Rattle.array_parts.specs.Placed.{HasPlaces};
 ghost use Rattle.cell_values.specs.Schemas.{IsValid};
 ghost use Rattle.logical_plan.specs.Typing.{is_sound};
-ghost use Rattle.changed_chunks.specs.Inner.Unchanged.{AreNumbers, AreNumbersAt, HaveNoFault, IsStorable, MayStandAt, MayStandFrom, StandsAlone};
+ghost use Rattle.changed_chunks.specs.Inner.Unchanged.{AreNumbers, AreNumbersAt, HaveNoFault, IsStorable, MayStandAt, MayStandFrom, IsStorableChunk};
 
 use array_geom::{Chunk, ChunkedArray, margins_of};
 use array_parts::holds_cell;
@@ -139,21 +139,21 @@ fn are_sound(attributes: &[Attribute], cells: &Cells) -> bool
 }
 
 /// Whether a chunk has a cell in its core and is known to be without a fault.
-fn stands_alone(schema: &Schema, margins: &Margins, chunk: &Chunk) -> bool
+fn is_storable_chunk(schema: &Schema, margins: &Margins, chunk: &Chunk) -> bool
     requires places { HasPlaces schema.now margins.now.items chunk.now }
     requires some { 0 < length schema.now.attributes }
-    ensures { IsTrue result → StandsAlone schema.now margins.now.items chunk.now }
+    ensures { IsTrue result → IsStorableChunk schema.now margins.now.items chunk.now }
 {
     holds_cell(schema, margins, chunk) && are_sound(schema.attributes.as_slice(), &chunk.cells)
 }
 
-fn stand_alone(schema: &Schema, margins: &Margins, chunks: &[Chunk]) -> bool
+fn are_storable_chunks(schema: &Schema, margins: &Margins, chunks: &[Chunk]) -> bool
     requires places { AllByRecursion (HasPlaces schema.now margins.now.items) chunks.now }
     requires some { 0 < length schema.now.attributes }
-    ensures { IsTrue result → AllByRecursion (StandsAlone schema.now margins.now.items) chunks.now }
+    ensures { IsTrue result → AllByRecursion (IsStorableChunk schema.now margins.now.items) chunks.now }
 {
     for chunk in chunks {
-        if !stands_alone(schema, margins, chunk) {
+        if !is_storable_chunk(schema, margins, chunk) {
             return false;
         }
     }
@@ -171,5 +171,5 @@ pub(crate) fn is_storable(array: &ChunkedArray, schema: &Schema) -> bool
         && !schema.attributes.is_empty()
         && same_schema(&array.schema, schema)
         && same_margins(&array.margins, &margins_of(schema))
-        && stand_alone(&array.schema, &array.margins, array.chunks.as_slice())
+        && are_storable_chunks(&array.schema, &array.margins, array.chunks.as_slice())
 }

@@ -3,7 +3,7 @@ use Rattle.std.specs.List.{AllByRecursion}
 use Rattle.std.specs.Prelude.{IsTrue}
 use Rattle.cell_values.specs.declared.schema.Attribute.{Attribute}
 use Rattle.logical_plan.specs.Typing.{is_sound}
-use Rattle.changed_chunks.proofs.chunks.unchanged.stands_alone.Goals as goal
+use Rattle.changed_chunks.proofs.chunks.unchanged.is_storable_chunk.Goals as goal
 
 pub returns-then-holds_cell : goal.returns-then-holds_cell
 returns-then-holds_cell c = λ are. record {
