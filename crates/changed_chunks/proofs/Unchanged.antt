@@ -1,7 +1,8 @@
 -- Chunks that are stored as they are.
-use Rattle.std.proofs.Common.{◌≡◌, ℕ, zero, suc, ◌⊎◌, ⊎_elim, ◌+◌, ◌<◌, ◌≤◌, ℤ, true, List, [], ◌∷◌, length, map, take, get_or, Some, None, Result, Ok, Err, refl, sym, ap, ◌∙◌, subst, arith, add-one}
+use Rattle.std.proofs.Common.{Option, ◌≡◌, ℕ, zero, suc, ◌⊎◌, ⊎_elim, ◌+◌, ◌<◌, ◌≤◌, ℤ, true, List, [], ◌∷◌, length, map, take, get_or, Some, None, Result, Ok, Err, refl, sym, ap, ◌∙◌, subst, arith, add-one, inl, inr}
 use Rattle.std.specs.Prelude.{IfOk, slice_index_or}
 use Rattle.std.specs.List.{AllByRecursion}
+use Rattle.std.specs.Option.{option_or}
 use Rattle.std.proofs.lemmas.Bool.{and_parts, and_from}
 use Rattle.std.proofs.lemmas.List.{take_all}
 use Rattle.cell_values.specs.declared.datum.Broken.{Broken}
@@ -17,6 +18,7 @@ use Rattle.cell_values.specs.declared.schema.Schema.{Schema}
 use Rattle.cell_values.specs.Cells.{AreOfKinds, IsCellOf}
 use Rattle.array_rows.specs.Arrays.{AreRowsOf}
 use Rattle.array_rows.specs.Boxes.{is_inside, within}
+use Rattle.array_rows.specs.CellFaults.{fault_of_cell, fault_of_value, fault_of_values}
 use Rattle.array_rows.specs.Inner.CellsIn.{value_in}
 use Rattle.array_geom.specs.declared.chunk.Changed.{Changed}
 use Rattle.array_geom.specs.declared.chunk.Chunk.{Chunk}
@@ -44,7 +46,7 @@ use Rattle.plan_changes.specs.declared.change.Change.TheVariants.{Store}
 use Rattle.plan_changes.proofs.FitLaws.{fit_is, fitted_cell, fitted_row}
 use Rattle.changed_chunks.specs.Changing.{IsAnswerOver}
 use Rattle.changed_chunks.specs.Inner.Input.{CanBeStored, IsFound, fitted_cores}
-use Rattle.changed_chunks.specs.Inner.Unchanged.{AreNumbers, IsStorable, StandsAlone}
+use Rattle.changed_chunks.specs.Inner.Unchanged.{AreNumbers, AreNumbersAt, HaveNoFault, IsStorable, MayStandAt, MayStandFrom, IsStorableChunk}
 use Rattle.changed_chunks.specs.Inner.Writes.{IsStoreOf}
 use Rattle.changed_chunks.proofs.ChunkLaws.{sound_cores, stored_chunks}
 use Rattle.changed_chunks.proofs.Rows.{found_there}
@@ -93,15 +95,75 @@ sound_each : (attributes : List Attribute) (cells : List Cell) → 0 < length at
 sound_each attributes [] some are = tt
 sound_each attributes (cell ∷ cells) some are = (sound_cell attributes cell some are.0, sound_each attributes cells some are.1)
 
-sound_all : (schema : Schema) (margins : List ℕ) (chunks : List Chunk) → 0 < length schema.attributes → AllByRecursion (StandsAlone schema margins) chunks → AllByRecursion (HasSoundCells schema) chunks
-sound_all schema margins [] some are = tt
-sound_all schema margins (chunk ∷ chunks) some are =
-    (sound_each schema.attributes chunk.cells some (each_number (length schema.attributes) chunk.cells are.0.numbers), sound_all schema margins chunks some are.1)
+sound_all : (schema : Schema) (margins : List ℕ) (chunks : List Chunk) → AllByRecursion (IsStorableChunk schema margins) chunks → AllByRecursion (HasSoundCells schema) chunks
+sound_all schema margins [] are = tt
+sound_all schema margins (chunk ∷ chunks) are = (are.0.sound, sound_all schema margins chunks are.1)
+
+pub numbers_sound : (attributes : List Attribute) (cells : List Cell) (count : ℕ) → 0 < length attributes → count ≡ length attributes → AreNumbers count cells → AllByRecursion (λ cell. is_sound attributes cell ≡ true) cells
+numbers_sound attributes cells count some same are = sound_each attributes cells some (each_number (length attributes) cells (subst (λ (n : ℕ). AreNumbers n cells) same are))
+
+-- ---- cells without a fault
+
+-- a cell's values from a place on may be null, or are numbers
+abbrev StandFrom : ℕ → List Attribute → Cell → Type 0
+StandFrom place [] cell = Unit {0}
+StandFrom place (a ∷ attributes) cell = (a.nullable ≡ true ⊎ IsNumber (value_in place cell)) × StandFrom (suc place) attributes cell
+
+first_stands : (place : ℕ) (attributes : List Attribute) (cell : Cell) (cells : List Cell) → MayStandFrom place attributes (cell ∷ cells) → StandFrom place attributes cell × MayStandFrom place attributes cells
+first_stands place [] cell cells may = (tt, tt)
+first_stands place (a ∷ attributes) cell cells may =
+    let rest = first_stands (suc place) attributes cell cells may.1 in
+    let Here : Type 0 = (a.nullable ≡ true ⊎ IsNumber (value_in place cell)) × MayStandAt a place cells in
+    let here : Here = ⊎_elim
+    (λ n. (inl n, inl n))
+    (λ are. let one = first_number (value_in place cell) (map (value_in place) cells) are.0 are.1 in (inr one.0, inr one.1)) may.0 in
+    ((here.0, rest.0), (here.1, rest.1))
+
+later_stand : (place : ℕ) (attributes : List Attribute) (v : Datum) (vs : List Datum) → StandFrom (suc place) attributes (Full (v ∷ vs)) → StandFrom place attributes (Full vs)
+later_stand place [] v vs stand = tt
+later_stand place (a ∷ attributes) v vs stand = (stand.0, later_stand (suc place) attributes v vs stand.1)
+
+both_none : (a b : Option FaultKind) → option_or a b ≡ None → (a ≡ None) × (b ≡ None)
+both_none None b e = (refl, e)
+both_none (Some kind) b e = absurd cc
+
+null_stands : (a : Attribute) (v : Datum) → fault_of_value v ≡ None → a.nullable ≡ true → may_stand a v ≡ true
+null_stands a Null e n = n
+null_stands a (Missing code) e n = n
+null_stands a (Int k) e n = refl
+null_stands a (Text s) e n = refl
+null_stands a (Truth b) e n = refl
+null_stands a (Bad kind) e n = absurd cc
+
+all_stand : (attributes : List Attribute) (vs : List Datum) → fault_of_values vs ≡ None → StandFrom 0 attributes (Full vs) → may_all_stand attributes vs ≡ true
+all_stand [] [] e stand = refl
+all_stand [] (v ∷ vs) e stand = refl
+all_stand (a ∷ attributes) [] e stand = refl
+all_stand (a ∷ attributes) (v ∷ vs) e stand =
+    let none = both_none (fault_of_value v) (fault_of_values vs) e in
+    and_from (may_stand a v) (may_all_stand attributes vs) (⊎_elim (null_stands a v none.0) (number_stands a v) stand.0) (all_stand attributes vs none.1 (later_stand 0 attributes v vs stand.1))
+
+cell_sound : (attributes : List Attribute) (cell : Cell) → fault_of_cell cell ≡ None → StandFrom 0 attributes cell → is_sound attributes cell ≡ true
+cell_sound attributes (Full vs) e stand = all_stand attributes vs e stand
+cell_sound attributes (Doubt kind) e stand = absurd cc
+
+pub faultless_sound : (attributes : List Attribute) (cells : List Cell) → MayStandFrom 0 attributes cells → HaveNoFault cells → AllByRecursion (λ cell. is_sound attributes cell ≡ true) cells
+faultless_sound attributes [] may none = tt
+faultless_sound attributes (cell ∷ cells) may none =
+    let first = first_stands 0 attributes cell cells may in
+    (cell_sound attributes cell (none 0 (omega arith)) first.0, faultless_sound attributes cells first.1 (λ k low. none (suc k) (omega (arith, low))))
+
+pub no_fault_more : (k : ℕ) (cells : List Cell) → fault_of_cell (slice_index_or cells k (Full [])) ≡ None → ((i : ℕ) → i < k → fault_of_cell (slice_index_or cells i (Full [])) ≡ None)
+    → (i : ℕ) → i < k + 1 → fault_of_cell (slice_index_or cells i (Full [])) ≡ None
+no_fault_more k cells now before = λ i low. ⊎_elim (before i) (λ same. ap (λ (n : ℕ). fault_of_cell (slice_index_or cells n (Full []))) same ∙ now) (cases i low)
+  where
+    cases : (i : ℕ) → i < k + 1 → (i < k) ⊎ (i ≡ k)
+    cases i low = grind arith
 
 -- ---- the tests, one by one
 
-pub numbers_more : (i : ℕ) (cells : List Cell) (numbers : List ℤ) → map (value_in i) cells ≡ map Int numbers → AreNumbers i cells → AreNumbers (i + 1) cells
-numbers_more i cells numbers now before = λ k low. ⊎_elim (before k) (λ same. (numbers, ap (λ (n : ℕ). map (value_in n) cells) same ∙ now)) (cases k low)
+pub numbers_more : (i : ℕ) (cells : List Cell) → AreNumbersAt i cells → AreNumbers i cells → AreNumbers (i + 1) cells
+numbers_more i cells now before = λ k low. ⊎_elim (before k) (λ same. subst (λ (n : ℕ). AreNumbersAt n cells) (sym same) now) (cases k low)
   where
     cases : (k : ℕ) → k < i + 1 → (k < i) ⊎ (k ≡ i)
     cases k low = grind arith
@@ -198,7 +260,7 @@ own_part schema margins chunk places = record {
 }
 
 all_chunks : (schema : Schema) (margins : List ℕ) (chunks : List Chunk) → AllByRecursion (HasPlaces schema margins) chunks → AllByRecursion (λ chunk. AreRowsOf schema (chunk_rows schema.dimensions margins chunk)) chunks
-    → AllByRecursion (StandsAlone schema margins) chunks → AllByRecursion (IsChunk schema margins) chunks
+    → AllByRecursion (IsStorableChunk schema margins) chunks → AllByRecursion (IsChunk schema margins) chunks
 all_chunks schema margins [] places rows are = tt
 all_chunks schema margins (chunk ∷ chunks) places rows are = (
   valid_chunk schema margins (chunk_rows schema.dimensions margins chunk) chunk (own_part schema margins chunk places.0) rows.0 places.0 are.0.held,
@@ -211,14 +273,11 @@ module _ (schema : Schema) (array : ChunkedArray) (cells : HasCells array) (is :
   have : HaveCells array.schema array.margins.items array.chunks
   have = cells is.whole
 
-  some_there : 0 < length array.schema.attributes
-  some_there = subst (λ (s : Schema). 0 < length s.attributes) (sym is.same) is.some
-
   overlapping : array.margins.items ≡ overlaps array.schema.dimensions
   overlapping = is.margins ∙ ap (λ (s : Schema). overlaps s.dimensions) (sym is.same)
 
   all_sound : AllByRecursion (HasSoundCells array.schema) array.chunks
-  all_sound = sound_all array.schema array.margins.items array.chunks some_there is.chunks
+  all_sound = sound_all array.schema array.margins.items array.chunks is.chunks
 
   rows_sound : AreSound array.schema (cores_of array)
   rows_sound = sound_cores array.schema array.margins.items array.chunks all_sound

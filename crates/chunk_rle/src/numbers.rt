@@ -26,11 +26,7 @@ pub(crate) fn is_same_number(a: i64, b: i64) -> bool
 }
 
 /// The next number: the run so far goes on, or it is done and another begins.
-fn take_number(
-    runs: &mut List<NumberRun>,
-    run: NumberRun,
-    number: i64,
-) -> Result<NumberRun, Memory>
+fn take_number(runs: &mut List<NumberRun>, run: NumberRun, number: i64) -> Result<NumberRun, Memory>
     requires { (0 < run.length) × (run.length < 2 ^ 63) }
     ensures same { IfOk result (λ now. (rest : Items OneDatum) → map as_run runs.new ++ value_runs (replicate now.length (Int now.number) ++ rest)
         ≡ map as_run runs.old ++ value_runs (replicate run.length (Int run.number) ++ Int number ∷ rest)) }
@@ -46,11 +42,7 @@ fn take_number(
     Ok(NumberRun { length: 1, number })
 }
 
-fn number_runs_from(
-    alloc: Global,
-    first: i64,
-    numbers: &[i64],
-) -> Result<List<NumberRun>, Memory>
+fn number_runs_from(alloc: Global, first: i64, numbers: &[i64]) -> Result<List<NumberRun>, Memory>
     ensures { IfOk result (λ runs. map as_run runs ≡ value_runs (Int first ∷ map Int numbers.now)) }
 {
     let mut runs = List::new(alloc);

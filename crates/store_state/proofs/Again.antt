@@ -1,5 +1,5 @@
 -- What a pin sees stays, and stores open again.
-use Rattle.std.proofs.Common.{◌≡◌, ◌∙◌, ℕ, suc, ◌-◌, ◌≤◌, ◌⊎◌, inl, inr, List, [], ◌∷◌, ◌++◌, drop, length, reverse, Option, None, Some, IfSome, Err, refl, ap, sym, subst, arith, length-append}
+use Rattle.std.proofs.Common.{◌≡◌, ◌∙◌, ℕ, suc, ◌-◌, ◌≤◌, inl, inr, List, [], ◌∷◌, ◌++◌, drop, length, reverse, Option, None, Some, IfSome, Err, refl, ap, sym, subst, arith, length-append}
 use Rattle.std.proofs.lemmas.List.{reverse-append}
 use Rattle.arrayvec.specs.ArrayVec.{ArrayVec}
 use Rattle.array_geom.specs.declared.chunk.Chunk.{Chunk}
@@ -15,11 +15,10 @@ use Rattle.event_core.specs.Cells.{at}
 use Rattle.event_core.specs.History.{History, up_to}
 use Rattle.store_versions.specs.Pins.{PlaceTells}
 use Rattle.store_versions.proofs.Pins.{places_tell_pins}
-use Rattle.store_ledger.specs.declared.note.Note.{Note}
 use Rattle.store_ledger.specs.Ledger.{history}
 use Rattle.store_state.specs.Calls.{database_with, history_at}
 use Rattle.store_state.specs.Laws.{IsNowOf, OpensAgain, PinnedCellsStay, StoresOpenAgain}
-use Rattle.store_state.specs.Standings.{Standing, IsAttempt, StandsFor, StoodFor}
+use Rattle.store_state.specs.Standings.{IsAttempt, StandsFor}
 
 -- ---- what a pin sees
 

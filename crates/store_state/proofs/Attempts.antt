@@ -1,5 +1,5 @@
 -- Changes that sessions tried to commit, over more entries and more notes.
-use Rattle.std.proofs.Common.{◌≡◌, ◌∙◌, ℕ, List, [], ◌∷◌, ◌++◌, length, Option, None, Some, IfSome, true, refl, ap, arith}
+use Rattle.std.proofs.Common.{◌≡◌, ℕ, List, ◌∷◌, ◌++◌, length, Option, None, Some, IfSome, true, ap, arith}
 use Rattle.std.proofs.lemmas.List.Elements.{Contains-append_left}
 use Rattle.afl_outside.specs.Disk.{Moment}
 use Rattle.plan_changes.specs.declared.change.Change.{Change}

@@ -1,9 +1,8 @@
 -- What a store keeps on an honest disk that began as a database goes on over pins, unpins and reaps.
-use Rattle.std.proofs.Common.{ℕ, ◌+◌, not, nat_eq, List, ◌∷◌, IsTrue, refl, ap, arith}
+use Rattle.std.proofs.Common.{ℕ, ◌+◌, not, nat_eq, List, ◌∷◌, IsTrue, refl}
 use Rattle.afl_outside.specs.Disk.{Moment}
 use Rattle.plan_changes.specs.Databases.{Database}
 use Rattle.plan_changes.specs.Stored.{IsDatabase}
-use Rattle.event_core.specs.declared.entry.Entry.{Entry}
 use Rattle.event_core.specs.declared.entry.Entry.TheVariants.{Pin, Unpin, Reap}
 use Rattle.event_core.specs.Allowed.{is_pinned}
 use Rattle.event_core.specs.Cells.{at}

@@ -42,6 +42,7 @@ pub mod RowsNewest
 pub mod RowsPages
 mod RowsWorked
 pub mod Runs
+pub mod Searches
 pub mod Sights
 pub mod SizesDirectories
 pub mod Takes

@@ -16,7 +16,7 @@ use Rattle.file_items.specs.Pages.{pages_needed}
 use Rattle.page_chain.specs.Pages.{page_size, pages_for, first_past}
 use Rattle.chunk_map.specs.declared.directory.DirEntry.{DirEntry}
 use Rattle.chunk_map.specs.declared.directory.Directory.{Directory}
-use Rattle.chunk_map.specs.Entries.{numbers}
+use Rattle.chunk_map.specs.Entries.{AreRising, numbers}
 use Rattle.chunk_map.specs.Spelling.{IsEntry}
 use Rattle.chunk_rle.specs.Stored.{IsStored as IsSpelled}
 use Rattle.file_meaning.specs.Source.{is_among, numbers_of, version_chunks, IsChunkIn, IsStored}
@@ -52,6 +52,7 @@ use Rattle.store_state.specs.declared.state.fault.ReadFault.TheVariants.{Damaged
 use Rattle.store_state.proofs.AtOn.{at_fault, at_read, with_ledger}
 use Rattle.store_state.proofs.Listings.{as_it_reads}
 use Rattle.store_state.specs.Calls.{entry_in, numbers_in, payload_in, spelled_by, IsLeafOf, IsRead, IsWhole}
+use Rattle.store_state.specs.Inner.Searched.{IfRising}
 use Rattle.store_state.specs.Inner.Keeping.{Keeping, AreDirectoriesOf, IsDirectoryOf, LiesIn, LieIn}
 use Rattle.store_state.proofs.Finds.{IsFoundIn, found_in_all, any_found, entry_found, listed_any}
 use Rattle.store_state.proofs.Leaves.{IsSeen, is_seen, of_version, directory_is, numbers_are}
@@ -66,6 +67,7 @@ pub record IsListed (names : Names) (versions : List MadeVersion) (leaf : Leaf) 
   pub number : entry.at ≡ at
   pub spelled : IsEntry (length leaf.schema.dimensions) entry
   pub core : IsTrue (has_core leaf.schema.dimensions entry.at.items)
+  pub rising : AreRising s.v.directory.entries
 
 same_items : (a b : ArrayVec ℕ) → a.items ≡ b.items → a ≡ b
 same_items a b e = ap (λ (items : List ℕ). let x : ArrayVec ℕ = record { items = items } in x) e
@@ -94,6 +96,7 @@ listed_by names versions leaf at is have all (suc n) e among =
       number = same_items f.0.at at (same_number f.0.at.items at.items (is_equal (number_order f.0.at.items at.items) spelled.passes));
       spelled = subst (λ (x : Schema). IsEntry (length x.dimensions) f.0) (sym s.schema) spelled.holds;
       core = subst (λ (x : Schema). IsTrue (has_core x.dimensions f.0.at.items)) (sym s.schema) core.holds;
+      rising = d.spelled.rising;
     }
 
 pub listed_is : (names : Names) (versions : List MadeVersion) (leaf : Leaf) (at : ArrayVec ℕ) → IsLeafOf names leaf → HaveDirectories names versions → AreDirectoriesOf names versions →
@@ -207,6 +210,12 @@ module _ {D : Type 0} (moment : D → Moment) (s : Standing D) (k : Keeping) (pl
   look_up : entry_in (directory_of leaf.name leaf.version (seen place k.rows)) at.items ≡ Some place_lists.entry
   look_up = ap (λ (versions : List MadeVersion). entry_in (directory_of leaf.name leaf.version versions) at.items) sees.rows
       ∙ entry_is (names_at s.ledger.base before) (versions_after s before) leaf at place_lists
+
+  pub read_rising : IfRising (directory_of leaf.name leaf.version (seen place k.rows))
+  read_rising =
+      let l : IsListed (names_at s.ledger.base before) (versions_after s before) leaf at = place_lists in
+      subst IfRising (sym (ap (λ (versions : List MadeVersion). directory_of leaf.name leaf.version versions) sees.rows
+      ∙ ap (λ (v : ℕ). directory_of leaf.name v (versions_after s before)) l.version ∙ directory_is (names_at s.ledger.base before) (versions_after s before) leaf l.n l.s)) l.rising
 
   pub never_none : None ≡ entry_in (directory_of leaf.name leaf.version (seen place k.rows)) at.items → ⊥
   never_none e = let no : None ≡ Some place_lists.entry = e ∙ look_up in cc

@@ -1,10 +1,10 @@
 -- A history has at most three reaps a pin.
-use Rattle.std.proofs.Common.{◌≡◌, ◌∙◌, ℕ, zero, suc, ◌+◌, ◌*◌, ◌-◌, ◌<◌, ◌≤◌, Bool, true, false, not, ◌&&◌, ◌||◌, nat_eq, nat_lt, if◌then◌else◌, List, [], ◌∷◌, ◌++◌, drop, length, reverse, Option, None, Some, IfSome, IsTrue, refl, ap, sym, subst, arith, length-append}
+use Rattle.std.proofs.Common.{◌≡◌, ◌∙◌, ℕ, zero, suc, ◌+◌, ◌-◌, ◌<◌, ◌≤◌, Bool, true, false, not, ◌&&◌, ◌||◌, nat_eq, nat_lt, if◌then◌else◌, List, [], ◌∷◌, drop, length, reverse, Option, None, Some, IfSome, IsTrue, refl, ap, sym, subst, arith, length-append}
 use Rattle.std.specs.Prelude.{nat_le}
 use Rattle.std.specs.List.{filter, list_all, sum_by}
 use Rattle.std.proofs.lemmas.Bool.{and_parts, eq-eqb, not-true}
 use Rattle.std.proofs.lemmas.Bool.Decides.{nat_tests}
-use Rattle.std.proofs.lemmas.List.{drop_all, length-drop, length-reverse, reverse-append}
+use Rattle.std.proofs.lemmas.List.{drop_all, length-drop, reverse-append}
 use Rattle.std.proofs.lemmas.List.Elements.{filter-append}
 use Rattle.std.proofs.lemmas.List.Sums.{sum_by-cons, sum_by_push}
 use Rattle.event_core.specs.declared.entry.Entry.{Entry}
@@ -17,12 +17,11 @@ use Rattle.event_core.specs.Legal.{IsOrdered, has_committed}
 use Rattle.event_core.proofs.Runs.{allowed_before, allowed_now}
 use Rattle.event_core.proofs.Tests.{eq_sym}
 use Rattle.store_versions.specs.Pins.{PlaceTells, pins_of}
-use Rattle.store_versions.proofs.Legal.{ordered_is_allowed}
 use Rattle.store_versions.proofs.Pins.{all_entries_are_the_history, open_pins_are_these, places_tell_pins}
 use Rattle.store_ledger.specs.declared.note.Note.{Note}
 use Rattle.store_ledger.specs.declared.note.NoteKind.{NoteKind}
 use Rattle.store_ledger.specs.declared.note.NoteKind.TheVariants.{Fault, Tried}
-use Rattle.store_ledger.specs.Ledger.{AreNoted, IsLedger, IsNote, has_note, history, is_kind, is_tried, is_waiting, reaps, unpins}
+use Rattle.store_ledger.specs.Ledger.{AreNoted, IsNote, has_note, history, is_kind, is_tried, is_waiting, reaps, unpins}
 use Rattle.store_ledger.proofs.Keeping.{begun_of, own_sum}
 use Rattle.store_ledger.proofs.Notes.{within_all}
 use Rattle.store_ledger.proofs.Pins.{split}

@@ -2,4 +2,5 @@ pub mod Decoded
 pub mod Insert
 pub mod Keeping
 pub mod Removal
+pub mod Searched
 pub mod Sights

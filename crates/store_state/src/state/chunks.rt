@@ -14,6 +14,7 @@ ghost use Rattle.store_state.specs.At.{AreParts, keeping, standing};
 ghost use Rattle.store_state.specs.Calls.{chunks_at, database_with, entry_in, history_at, payload_at, IsLeafOf, IsUnread, NotesFault};
 ghost use Rattle.store_state.specs.Payloads.{HasTold, WasDamagedAt};
 ghost use Rattle.store_state.specs.Standings.{database_at, BeganAs};
+ghost use Rattle.store_state.specs.Inner.Searched.{IfRising};
 ghost use Rattle.store_state.specs.Inner.Sights.{Sees, SeesCells, SeesPayloads};
 ghost use Rattle.store_state.specs.declared.state.fault.ReadFault.TheVariants.{Damaged};
 
@@ -35,6 +36,7 @@ fn payload_at<'a>(
     at: &ChunkAt,
     place: u64,
 ) -> Option<&'a DirEntry>
+    requires { IfRising (directory_of leaf.now.name leaf.now.version (seen place table.now.rows)) }
     ensures { option_copied result ≡ entry_in (directory_of leaf.now.name leaf.now.version (seen place table.now.rows)) at.now.items }
 {
     match table.directory_at(&leaf.name, leaf.version, place) {

@@ -7,6 +7,7 @@ ghost use Rattle.cell_values.specs.Schemas.{IsValid};
 ghost use Rattle.array_geom.specs.Geometry.{has_core};
 ghost use Rattle.std.specs.Ordering.{is_eq};
 ghost use Rattle.array_geom.specs.Link.{number_order};
+ghost use Rattle.chunk_map.specs.Entries.{AreRising};
 ghost use Rattle.page_chain.specs.Pages.{page_size, pages_for};
 ghost use Rattle.page_chain.specs.Inner.Runs.{OnlyReads};
 ghost use Rattle.page_chain.specs.Standing.{IsSound};
@@ -22,18 +23,25 @@ use chunk_map::DirEntry;
 use chunk_rle::{BadPayload, decode};
 use page_file::{BlobFault, PageFile};
 use std::alloc::Global;
+use std::cmp::Ordering;
 
-fn is_at(entry: &DirEntry, at: &ChunkAt) -> bool
-    ensures { result ≡ is_eq (number_order entry.now.at.items at.now.items) }
-{
-    compare_numbers(&entry.at, at).is_eq()
-}
-
-/// The entry of a chunk.
+/// The entry of a chunk, by halves.
 pub(crate) fn entry_at<'a>(entries: &'a [DirEntry], at: &ChunkAt) -> Option<&'a DirEntry>
+    requires { AreRising entries.now }
     ensures { option_copied result ≡ find (λ entry. is_eq (number_order entry.at.items at.now.items)) entries.now }
 {
-    entries.iter().find(|entry| is_at(entry, at))
+    let mut start = 0;
+    let mut end = entries.len();
+    while start < end {
+        let middle = start + (end - start) / 2;
+        let entry = &entries[middle];
+        match compare_numbers(&entry.at, at) {
+            Ordering::Less => start = middle + 1,
+            Ordering::Greater => end = middle,
+            Ordering::Equal => return Some(entry),
+        }
+    }
+    None
 }
 
 /// The chunk that these bytes of an entry spell.

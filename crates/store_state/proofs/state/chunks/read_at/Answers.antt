@@ -3,7 +3,7 @@ use Rattle.store_versions.specs.Seen.{seen}
 use Rattle.store_versions.specs.Versions.{directory_of}
 use Rattle.store_state.specs.At.{keeping, standing}
 use Rattle.store_state.specs.Calls.{entry_in, history_at}
-use Rattle.store_state.proofs.ReadLaws.{never_none, parts_read, read_core, read_damaged, read_is_stored, read_pages, read_some, read_tells, read_valid, read_whole}
+use Rattle.store_state.proofs.ReadLaws.{never_none, parts_read, read_core, read_damaged, read_is_stored, read_pages, read_rising, read_some, read_tells, read_valid, read_whole}
 use Rattle.store_state.proofs.state.chunks.read_at.Goals as goal
 
 pub read_entry-answer-requires-clause-valid : goal.read_entry-answer-requires-clause-valid
@@ -87,3 +87,9 @@ returns-clause-damaged g c =
     let found : Some c.in-Some.entry.now ≡ entry_in (directory_of c.args.leaf.now.name c.args.leaf.now.version (seen c.args.place parts.table.rows)) c.args.at.now.items = search rules in
     read_damaged moment s (keeping parts) c.args.place (history_at s c.args.place) c.args.leaf.now c.args.at.now c.requires.sees c.requires.leaf c.requires.listed c.in-Some.entry.now found
     c.read_entry-answer.result c.requires.payloads (g.met.D.Disk.as_read s.disk) c.read_entry-answer.ensures.exact
+
+pub payload_at-requires : goal.payload_at-requires
+payload_at-requires g c =
+    let moment = g.D.Disk.moment in
+    let s = standing moment c.args.parts.now in
+    read_rising moment s (keeping c.args.parts.now) c.args.place (history_at s c.args.place) c.args.leaf.now c.args.at.now c.requires.sees c.requires.leaf c.requires.listed

@@ -1,7 +1,0 @@
-use Rattle.std.proofs.Common.{take}
-use Rattle.std.specs.List.{AllByRecursion}
-use Rattle.changed_chunks.specs.Inner.Unchanged.{StandsAlone}
-use Rattle.changed_chunks.proofs.chunks.unchanged.stand_alone.Given as goal
-
-abbrev pub invariant-loop-chunk : goal.invariant-loop-chunk
-invariant-loop-chunk l = AllByRecursion (StandsAlone l.schema l.margins.items) (take l.chunk-index l.chunks)
