@@ -53,9 +53,9 @@ broken_source plan source node array made broken is can breaks made_is =
     let cores : meant_by_cores array ≡ broken_by broken (schema_of source) = λ i. record { schema = schemas.0 i; rows = unless_broken (breaks i) (cores_of array) } in
     let whole : operated plan (meant_by_cores array ∷ []) ≡ broken_by broken (schema_of plan)
     = ap (λ (m : Meant). operated plan (m ∷ [])) cores
-        ∙ ap (λ (z : Query). operated z (broken_by broken (schema_of source) ∷ [])) is
-        ∙ unary_broken node source broken
-        ∙ ap (λ (z : Query). broken_by broken (schema_of z)) (sym is) in
+    ∙ ap (λ (z : Query). operated z (broken_by broken (schema_of source) ∷ [])) is
+    ∙ unary_broken node source broken
+    ∙ ap (λ (z : Query). broken_by broken (schema_of z)) (sym is) in
     computed_by_cores plan (λ m. operated plan (m ∷ [])) array made (λ m. refl) (ap (λ (m : Meant). m.schema) whole) (subst (Is made) (sym whole) made_is)
 
 -- ---- two sources
@@ -84,10 +84,10 @@ module _ (plan left right : Query) (node : BinaryNode) (a b made : ChunkedArray)
   of_both l r of_left of_right breaks =
       let whole : operated plan (meant_by_cores a ∷ meant_by_cores b ∷ []) ≡ broken_by broken (schema_of plan)
       = ap (λ (m : Meant). operated plan (m ∷ meant_by_cores b ∷ [])) of_left
-          ∙ ap (λ (m : Meant). operated plan (l ∷ m ∷ [])) of_right
-          ∙ ap (λ (z : Query). operated z (l ∷ r ∷ [])) is
-          ∙ breaks
-          ∙ ap (λ (z : Query). broken_by broken (schema_of z)) (sym is) in
+      ∙ ap (λ (m : Meant). operated plan (l ∷ m ∷ [])) of_right
+      ∙ ap (λ (z : Query). operated z (l ∷ r ∷ [])) is
+      ∙ breaks
+      ∙ ap (λ (z : Query). broken_by broken (schema_of z)) (sym is) in
       computed_of_two plan (λ x y. operated plan (x ∷ y ∷ [])) a b made (λ x y. refl) (ap (λ (m : Meant). m.schema) whole) (subst (Is made) (sym whole) made_is)
 
   pub broken_left : a.broken ≡ Some broken → IsResultOf plan (a ∷ b ∷ []) made

@@ -8,7 +8,6 @@ use Rattle.cell_values.specs.Schemas.{IsValid}
 use Rattle.exec_box.specs.Made.{IsMadeOf}
 use Rattle.exec_box.specs.Parts.{part_meant, slice_meant}
 use Rattle.exec_group.specs.Meant.{aggregate_meant, regrid_meant}
-use Rattle.expr_nulls.specs.Expr.{Expr}
 use Rattle.order_exec.specs.Meant.{cumulate_meant, rank_meant}
 use Rattle.window_overlap.specs.Meant.{window_meant}
 use Rattle.logical_plan.specs.declared.arity.UnaryNode.{UnaryNode}
@@ -21,7 +20,7 @@ use Rattle.logical_plan.specs.CellOps.{filter_rows, apply_rows, project_rows}
 use Rattle.logical_plan.specs.Meaning.{redimensioned_from, sorted_from}
 use Rattle.logical_plan.specs.PlanSchema.{schema_of}
 use Rattle.logical_plan.specs.ShapeMeant.{reverse_meant, transpose_meant, unpack_meant, xgrid_meant}
-use Rattle.logical_plan.specs.Query.{Query, filtered, applied, projected, between, subarray, sliced, redimensioned, regridded, windowed, aggregated}
+use Rattle.logical_plan.specs.Query.{filtered, applied, projected, between, subarray, sliced, redimensioned, regridded, windowed, aggregated}
 use Rattle.logical_plan.specs.Query.{sorted, ranked, cumulated, transposed, reversed, unpacked, xgridded}
 use Rattle.logical_plan.proofs.SchemaLaws.{typed_valid}
 use Rattle.chunk_exec.proofs.OperatorLaws.{of_this_plan, filter_result, apply_result, project_result, between_result, subarray_result, slice_result}
