@@ -3,55 +3,77 @@
 
 use clap::{Arg, ArgAction, ArgMatches, Command, value_parser};
 use csv_scripts::{CsvFault, Options, convert, fault_text, load_plan};
-use std::alloc::Global;
+use std::alloc::{AllocError, Global};
 use std::io::{BufWriter, Eprint, Print, Write};
 use std::process::ExitCode;
 
 const OUT_OF_MEMORY: &str = "csv2afl: out of memory";
 
-fn command<'a>(alloc: Global) -> Result<Command<'a>, std::alloc::AllocError> {
-    let name = Arg::new(alloc, "NAME")
+fn name_arg<'a>(alloc: Global) -> Arg<'a> {
+    Arg::new(alloc, "NAME")
         .required(true)
         .action(ArgAction::Set)
-        .help("The array that the records go into");
-    let schema = Arg::new(alloc, "SCHEMA")
+        .help("The array that the records go into")
+}
+
+fn schema_arg<'a>(alloc: Global) -> Arg<'a> {
+    Arg::new(alloc, "SCHEMA")
         .required(true)
         .action(ArgAction::Set)
-        .help("Its schema, as '<temp:int64>[x=0:*,100,0,y=0:*,100,0]'");
-    let create = Arg::new(alloc, "create")
+        .help("Its schema, as '<temp:int64>[x=0:*,100,0,y=0:*,100,0]'")
+}
+
+fn create_arg<'a>(alloc: Global) -> Arg<'a> {
+    Arg::new(alloc, "create")
         .long("create")
         .action(ArgAction::SetTrue)
-        .help("Makes the array first");
-    let bare = Arg::new(alloc, "bare")
+        .help("Makes the array first")
+}
+
+fn bare_arg<'a>(alloc: Global) -> Arg<'a> {
+    Arg::new(alloc, "bare")
         .long("bare")
         .action(ArgAction::SetTrue)
-        .help("Takes texts and truths as other programs write them: no '..' around texts");
-    let null = Arg::new(alloc, "null")
+        .help("Takes texts and truths as other programs write them: no '..' around texts")
+}
+
+fn null_arg<'a>(alloc: Global) -> Arg<'a> {
+    Arg::new(alloc, "null")
         .long("null")
         .action(ArgAction::Set)
         .value_name("WORD")
         .default_value("null")
-        .help("What stands for a null, beside an empty field");
-    let decimals = Arg::new(alloc, "decimals")
+        .help("What stands for a null, beside an empty field")
+}
+
+fn decimals_arg<'a>(alloc: Global) -> Arg<'a> {
+    Arg::new(alloc, "decimals")
         .long("decimals")
         .action(ArgAction::Append)
         .value_name("COLUMN=N")
-        .help("Keeps 21.5 as 2150, where N is 2; may be given for several columns");
-    let rows = Arg::new(alloc, "rows")
+        .help("Keeps 21.5 as 2150, where N is 2; may be given for several columns")
+}
+
+fn rows_arg<'a>(alloc: Global) -> Arg<'a> {
+    Arg::new(alloc, "rows")
         .long("rows")
         .value_name("N")
         .value_parser(value_parser!(u64))
         .default_value("1000000")
-        .help("How many records go into a version of the array at most");
-    Command::new(alloc, "csv2afl")
-        .about("Makes a script that puts the records of a CSV file into an array of aflshell")
-        .arg(name)?
-        .arg(schema)?
-        .arg(create)?
-        .arg(bare)?
-        .arg(null)?
-        .arg(decimals)?
-        .arg(rows)
+        .help("How many records go into a version of the array at most")
+}
+
+fn command<'a>(alloc: Global) -> Result<Command<'a>, AllocError> {
+    let command = Command::new(alloc, "csv2afl").about(
+        "Makes a script that puts the records of a CSV file into an array of aflshell",
+    );
+    let command = command.arg(name_arg(alloc))?;
+    let command = command.arg(schema_arg(alloc))?;
+    let command = command.arg(create_arg(alloc))?;
+    let command = command.arg(bare_arg(alloc))?;
+    let command = command.arg(null_arg(alloc))?;
+    let command = command.arg(decimals_arg(alloc))?;
+    command.arg(rows_arg(alloc))
 }
 
 fn print_fault(rt: &impl Eprint, alloc: Global, fault: &CsvFault) {
