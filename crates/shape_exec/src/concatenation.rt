@@ -146,11 +146,7 @@ fn rows_of_side(array: &ChunkedArray, area: &Bounds) -> Result<List<Row>, Memory
 }
 
 /// The right's rows that come into a box.
-fn rows_of_shift(
-    right: &ChunkedArray,
-    by: &Shift<'_>,
-    area: &Bounds,
-) -> Result<List<Row>, Memory>
+fn rows_of_shift(right: &ChunkedArray, by: &Shift<'_>, area: &Bounds) -> Result<List<Row>, Memory>
     requires cells { HaveCells right.now.schema right.now.margins.items right.now.chunks }
     requires able { CanConcat (step_of by.now.left.now by.now.right.now) by.now.left.now by.now.right.now by.now.target.now }
     requires right { by.now.right.now ≡ right.now.schema }

@@ -8,9 +8,9 @@ ghost use Rattle.array_rows.specs.Rows.{Coordinate};
 ghost use Rattle.shape_rows.specs.Pulls.{ComesFrom};
 ghost use Rattle.shape_exec.specs.Inner.Added.{IsMove};
 
+use crate::cell_maps::CellMap;
 use crate::chunk_numbers::push_number;
 use crate::row_order::in_order;
-use crate::cell_maps::CellMap;
 use cell_values::{Bounds, ChunkAt, Coord, List, Memory, Row, Schema};
 
 /// A map of the coordinates within bounds that can be undone.

@@ -11,9 +11,9 @@ ghost use Rattle.array_parts.specs.Cores.{HaveCells, cores_of};
 ghost use Rattle.shape_rows.specs.Pulls.{IsPulled};
 ghost use Rattle.shape_exec.specs.Inner.Pulled.{IsPulledPart};
 
+use crate::cell_maps::CellMap;
 use crate::chunk_numbers::numbers_reached;
 use crate::row_order::keep_inside;
-use crate::cell_maps::CellMap;
 use afl_outside::Gate;
 use area_cells::{array_of_parts, chunk_of_rows, rows_in_area};
 use array_geom::{Chunk, ChunkedArray, frame, grid_of, margins_of};

@@ -11,8 +11,8 @@ ghost use Rattle.cell_values.specs.Schemas.{IsValid};
 ghost use Rattle.chunk_cells.specs.Inner.Numbers.{numbers_in};
 ghost use Rattle.exec_box.specs.Inner.Reached.{HaveCores};
 
-use crate::coord_maps::{CoordMap, ByCoords};
 use crate::chunk_numbers::numbers_reached;
+use crate::coord_maps::{ByCoords, CoordMap};
 use array_geom::ChunkedArray;
 use cell_values::{Bounds, ChunkAt, Coord, List, Memory, Schema, copy_coord};
 use exec_box::in_order;
