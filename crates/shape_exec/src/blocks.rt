@@ -1,18 +1,181 @@
 //! `xgrid`.
-ghost use Rattle.std.specs.Prelude.{◌≡◌, IsTrue, IfOk};
+ghost use Rattle.std.specs.Prelude.{◌≡◌, ◌+◌, ◌≤◌, ◌<◌, ◌^◌, ◌+ℤ◌, ◌++◌, ◌∷◌, [], None, pos, length, IsTrue, OnOk, IfOk};
+ghost use Rattle.std.specs.Int.{w64, saturate_signed};
 ghost use Rattle.cell_values.specs.Schemas.{IsValid};
 ghost use Rattle.array_geom.specs.Geometry.{overlaps};
 ghost use Rattle.array_geom.specs.Link.{Is};
-ghost use Rattle.array_parts.specs.Cores.{HasCells, meant_by_cores};
+ghost use Rattle.array_parts.specs.Cores.{HasCells, HaveCells, meant_by_cores};
+ghost use Rattle.logical_plan.specs.Places.{how_many};
+ghost use Rattle.logical_plan.specs.Shapes.{first_place, last_place};
 ghost use Rattle.logical_plan.specs.ShapeMeant.{xgrid_meant};
 ghost use Rattle.logical_plan.specs.ShapeSchemas.{xgrid_schema};
 ghost use Rattle.logical_plan.specs.Typing.{enlarges};
+ghost use Rattle.shape_rows.specs.Laws.{AllEnlarge};
+ghost use Rattle.shape_exec.specs.Inner.Spread.{block_part, parts_of, spread_all, spread_under};
 
+use crate::row_order::in_order;
 use afl_outside::Gate;
-use array_geom::ChunkedArray;
-use cell_values::{Memory, Schema};
+use array_geom::{ChunkedArray, margins_of};
+use arrayvec::ArrayVec;
+use cell_values::{Cell, Coord, Dimension, List, Memory, Row, Schema, copy_coord};
+use chunk_cells::{assemble, into_core_rows};
 use chunk_workers::Crew;
 use std::thread::Threads;
+
+/// Places along a dimension, from the first to the last.
+#[derive(Clone, Copy, Default)]
+pub struct Part {
+    pub first: i64,
+    pub last: i64,
+}
+
+type Parts = ArrayVec<Part, 6>;
+
+/// The first place of the block of a place.
+#[tactic(auto, using(crate::proofs::SpreadLaws::far))]
+fn first_place(d: &Dimension, size: u64, number: i64) -> i64
+    ensures { result ≡ saturate_signed w64 (first_place d.now size number) }
+{
+    d.lo.saturating_add_unsigned(number.abs_diff(d.lo).saturating_mul(size))
+}
+
+/// The last place of the block of a place.
+#[tactic(auto, using(crate::proofs::SpreadLaws::farther))]
+pub(crate) fn last_place(d: &Dimension, size: u64, number: i64) -> i64
+    ensures { result ≡ saturate_signed w64 (last_place d.now size number) }
+{
+    let before = number.abs_diff(d.lo).saturating_mul(size);
+    d.lo.saturating_add_unsigned(before.saturating_add(size.saturating_sub(1)))
+}
+
+fn block_part(d: &Dimension, size: u64, number: i64) -> Part
+    ensures { result ≡ block_part d.now size number }
+{
+    Part {
+        first: first_place(d, size, number),
+        last: last_place(d, size, number),
+    }
+}
+
+fn push_parts(out: &mut Parts, dims: &[Dimension], sizes: &[u64], at: &[i64])
+    requires { length out.old.items + length at.now ≤ 6 }
+    ensures { out.new.items ≡ out.old.items ++ parts_of dims.now sizes.now at.now }
+{
+    match dims {
+        [] => {}
+        [d, dims @ ..] => match sizes {
+            [] => {}
+            [size, sizes @ ..] => match at {
+                [] => {}
+                [number, at @ ..] => {
+                    out.push(block_part(d, *size, *number));
+                    push_parts(out, dims, sizes, at);
+                }
+            },
+        },
+    }
+}
+
+/// How many places a part has. No memory holds a cell for each of 2^63 and more.
+fn count_of(part: Part) -> Result<u64, Memory>
+    ensures value { IfOk result (λ count. count ≡ how_many part.first part.last) }
+    ensures few { IfOk result (λ count. count ≤ 2 ^ 63) }
+{
+    if part.last < part.first {
+        return Ok(0);
+    }
+    match part.last.checked_sub(part.first) {
+        Some(last) => Ok(last as u64 + 1),
+        None => Err(Memory),
+    }
+}
+
+/// The place of a part that so many others come before.
+fn place_in(part: Part, offset: u64) -> i64
+    requires within { offset < how_many part.first part.last }
+    requires few { how_many part.first part.last ≤ 2 ^ 63 }
+    ensures { result ≡ part.first +ℤ pos offset }
+{
+    part.first + offset as i64
+}
+
+/// Adds a cell at the coordinates that begin so and go on in these parts.
+#[cycle(push_spread)]
+fn push_spread(rows: &mut List<Row>, at: &Coord, parts: &[Part], cell: &Cell) -> Result<(), Memory>
+    requires { length at.now.items + length parts.now ≤ 6 }
+    ensures { OnOk result (rows.new ≡ rows.old ++ spread_under cell.now at.now.items parts.now) }
+{
+    match parts {
+        [] => rows.push(Row {
+            at: copy_coord(at),
+            cell: cell.copy()?,
+        }),
+        [part, rest @ ..] => push_along(rows, at, *part, rest, cell),
+    }
+}
+
+/// Adds a cell along a first part, and then in the others.
+#[cycle(push_spread)]
+fn push_along(
+    rows: &mut List<Row>,
+    at: &Coord,
+    part: Part,
+    rest: &[Part],
+    cell: &Cell,
+) -> Result<(), Memory>
+    requires { length at.now.items + length rest.now < 6 }
+    ensures { OnOk result (rows.new ≡ rows.old ++ spread_under cell.now at.now.items (part ∷ rest.now)) }
+{
+    for offset in 0..count_of(part)? {
+        let mut next = copy_coord(at);
+        next.push(place_in(part, offset));
+        push_spread(rows, &next, rest, cell)?;
+    }
+    Ok(())
+}
+
+/// Adds a row's cell at all places of its block.
+fn push_block(
+    out: &mut List<Row>,
+    dims: &[Dimension],
+    sizes: &[u64],
+    row: &Row,
+) -> Result<(), Memory>
+    ensures { OnOk result (out.new ≡ out.old ++ spread_under row.now.cell [] (parts_of dims.now sizes.now row.now.at.items)) }
+{
+    let mut parts = Parts::new();
+    push_parts(&mut parts, dims, sizes, row.at.as_slice());
+    push_spread(out, &Coord::new(), parts.as_slice(), &row.cell)
+}
+
+/// Each row's cell at all places of its block.
+fn spread_rows(rows: List<Row>, dims: &[Dimension], sizes: &[u64]) -> Result<List<Row>, Memory>
+    ensures { IfOk result (λ made. made ≡ spread_all dims.now sizes.now rows) }
+{
+    let mut made = rows.another();
+    for row in rows.as_slice() {
+        push_block(&mut made, dims, sizes, row)?;
+    }
+    Ok(made)
+}
+
+/// The array of blocks of one that is not broken.
+#[tactic(auto, using(array_geom::proofs::MarginLaws::overlap_each, array_geom::proofs::MarginLaws::overlap_places))]
+fn of_whole(array: ChunkedArray, sizes: &[u64], target: &Schema) -> Result<ChunkedArray, Memory>
+    requires whole { array.broken ≡ None }
+    requires cells { HaveCells array.schema array.margins.items array.chunks }
+    requires blocks { AllEnlarge array.schema.dimensions sizes.now }
+    requires target { target.now ≡ xgrid_schema sizes.now array.schema }
+    requires valid { IsValid target.now }
+    ensures array { IfOk result (λ made. Is made (xgrid_meant sizes.now (meant_by_cores array))) }
+    ensures margins { IfOk result (λ made. made.margins.items ≡ overlaps target.now.dimensions) }
+{
+    let source = array.schema.copy()?;
+    let rows = into_core_rows(array)?;
+    let spread = spread_rows(rows, source.dimensions.as_slice(), sizes)?;
+    let made = in_order(spread)?;
+    assemble(target, &margins_of(target), made.as_slice())
+}
 
 /// The cells of an array, each at all places of a block of these sizes, one for each dimension. What the array's margins hold
 /// doesn't matter.
@@ -22,6 +185,7 @@ pub fn xgrid<R: Threads + Sync, G: Gate>(
     blocks: &[u64],
     target: &Schema,
 ) -> Result<ChunkedArray, Memory>
+    requires whole { array.broken ≡ None }
     requires cells { HasCells array }
     requires blocks { IsTrue (enlarges array.schema blocks.now) }
     requires target { target.now ≡ xgrid_schema blocks.now array.schema }
@@ -30,8 +194,5 @@ pub fn xgrid<R: Threads + Sync, G: Gate>(
     ensures margins { IfOk result (λ made. made.margins.items ≡ overlaps target.now.dimensions) }
 {
     let _ = crew;
-    let _ = array;
-    let _ = blocks;
-    let _ = target;
-    Err(Memory)
+    of_whole(array, blocks, target)
 }

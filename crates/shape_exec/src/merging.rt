@@ -1,27 +1,134 @@
 //! `merge`.
-ghost use Rattle.std.specs.Prelude.{◌≡◌, IsTrue, IfOk};
+ghost use Rattle.std.specs.Prelude.{◌≡◌, None, IsTrue, IfOk};
 ghost use Rattle.cell_values.specs.Schemas.{IsValid};
-ghost use Rattle.array_geom.specs.Geometry.{overlaps};
+ghost use Rattle.array_rows.specs.Rows.{put_all};
+ghost use Rattle.array_geom.specs.Geometry.{HasFrame, overlaps};
 ghost use Rattle.array_geom.specs.Link.{Is};
-ghost use Rattle.array_parts.specs.Cores.{HasCells, meant_by_cores};
+ghost use Rattle.array_parts.specs.Cores.{HasCells, HaveCells, cores_of, meant_by_cores};
+ghost use Rattle.area_cells.specs.Pieces.{IsPartAt};
 ghost use Rattle.logical_plan.specs.ShapeMeant.{merge_meant};
 ghost use Rattle.logical_plan.specs.ShapeSchemas.{merge_schema};
 ghost use Rattle.logical_plan.specs.Typing.{merges};
 
+use crate::found_chunks::chunk_of_found;
+use crate::pair_numbers::{numbers_of_both, numbers_of_side};
 use afl_outside::Gate;
-use array_geom::ChunkedArray;
-use cell_values::{Memory, Schema};
-use chunk_workers::Crew;
+use area_cells::{array_of_parts, found_in};
+use array_geom::{Chunk, ChunkedArray, frame, grid_of, margins_of};
+use cell_values::{ChunkAt, Margins, Memory, Schema};
+use chunk_cells::put_over;
+use chunk_workers::{Crew, Work, over_pieces};
 use std::thread::Threads;
 
-/// The left's cells, and the right's where the left has none. Of two broken arrays the left one breaks the result. What the margins
-/// of the two hold doesn't matter.
+/// A source's cells in the chunk of this number.
+fn chunk_of_side(
+    array: &ChunkedArray,
+    schema: &Schema,
+    margins: &Margins,
+    number: &ChunkAt,
+) -> Result<Chunk, Memory>
+    requires cells { HaveCells array.now.schema array.now.margins.items array.now.chunks }
+    requires framed { HasFrame schema.now margins.now.items number.now.items }
+    ensures { IfOk result (IsPartAt schema.now margins.now.items (cores_of array.now) number.now) }
+{
+    let area = frame(schema, margins, number);
+    let grid = grid_of(schema, margins, number);
+    let found = found_in(
+        &array.schema,
+        &array.margins,
+        array.chunks.as_slice(),
+        &area,
+        &grid,
+    )?;
+    let made = chunk_of_found(number, &grid, found)?;
+    Ok(made)
+}
+
+/// The merged chunk of this number: the left's cells put over the right's.
+fn chunk_of_both(
+    left: &ChunkedArray,
+    right: &ChunkedArray,
+    schema: &Schema,
+    margins: &Margins,
+    number: &ChunkAt,
+) -> Result<Chunk, Memory>
+    requires left { HaveCells left.now.schema left.now.margins.items left.now.chunks }
+    requires right { HaveCells right.now.schema right.now.margins.items right.now.chunks }
+    requires framed { HasFrame schema.now margins.now.items number.now.items }
+    ensures { IfOk result (IsPartAt schema.now margins.now.items (put_all (cores_of left.now) (cores_of right.now)) number.now) }
+{
+    let above = chunk_of_side(left, schema, margins, number)?;
+    let below = chunk_of_side(right, schema, margins, number)?;
+    let made = put_over(&below, &above)?;
+    Ok(made)
+}
+
+/// Two arrays, and the schema and the margins of the chunks of both.
+#[derive(Drop)]
+struct OfBoth<'a> {
+    left: &'a ChunkedArray,
+    right: &'a ChunkedArray,
+    schema: &'a Schema,
+    margins: &'a Margins,
+}
+
+impl Work<ChunkAt, Chunk> for OfBoth<'_> {
+    ghost accepts = { λ of number. HaveCells of.left.now.schema of.left.now.margins.items of.left.now.chunks
+        × HaveCells of.right.now.schema of.right.now.margins.items of.right.now.chunks
+        × HasFrame of.schema.now of.margins.now.items number.items };
+
+    ghost gives = { λ of number made. IsPartAt of.schema.now of.margins.now.items (put_all (cores_of of.left.now) (cores_of of.right.now)) number made };
+
+    fn size(&self, number: &ChunkAt) -> usize {
+        grid_of(self.schema, self.margins, number).volume() as usize
+    }
+
+    fn work(&self, number: ChunkAt) -> Result<Chunk, Memory> {
+        chunk_of_both(self.left, self.right, self.schema, self.margins, &number)
+    }
+}
+
+/// Two arrays that are not broken, merged.
+#[tactic(auto, using(array_geom::proofs::MarginLaws::overlap_each, array_geom::proofs::MarginLaws::overlap_places))]
+fn of_whole<R: Threads + Sync, G: Gate>(
+    crew: &mut Crew<'_, R, G>,
+    left: &ChunkedArray,
+    right: &ChunkedArray,
+    schema: &Schema,
+) -> Result<ChunkedArray, Memory>
+    requires left_whole { left.now.broken ≡ None }
+    requires right_whole { right.now.broken ≡ None }
+    requires left { HaveCells left.now.schema left.now.margins.items left.now.chunks }
+    requires right { HaveCells right.now.schema right.now.margins.items right.now.chunks }
+    requires typed { IsTrue (merges left.now.schema right.now.schema) }
+    requires schema { schema.now ≡ merge_schema left.now.schema right.now.schema }
+    requires valid { IsValid schema.now }
+    ensures array { IfOk result (λ made. Is made (merge_meant (meant_by_cores left.now) (meant_by_cores right.now))) }
+    ensures margins { IfOk result (λ made. made.margins.items ≡ overlaps schema.now.dimensions) }
+{
+    let margins = margins_of(schema);
+    let of_left = numbers_of_side(left, schema)?;
+    let of_right = numbers_of_side(right, schema)?;
+    let numbers = numbers_of_both(of_left, of_right)?;
+    let of = OfBoth {
+        left,
+        right,
+        schema,
+        margins: &margins,
+    };
+    let parts = over_pieces(crew, numbers, &of)?;
+    array_of_parts(schema, &margins, parts)
+}
+
+/// The left's cells, and the right's where the left has none. What the margins of the two hold doesn't matter.
 pub fn merge<R: Threads + Sync, G: Gate>(
     crew: &mut Crew<'_, R, G>,
     left: ChunkedArray,
     right: ChunkedArray,
     target: &Schema,
 ) -> Result<ChunkedArray, Memory>
+    requires left_whole { left.broken ≡ None }
+    requires right_whole { right.broken ≡ None }
     requires left_cells { HasCells left }
     requires right_cells { HasCells right }
     requires typed { IsTrue (merges left.schema right.schema) }
@@ -30,9 +137,5 @@ pub fn merge<R: Threads + Sync, G: Gate>(
     ensures array { IfOk result (λ made. Is made (merge_meant (meant_by_cores left) (meant_by_cores right))) }
     ensures margins { IfOk result (λ made. made.margins.items ≡ overlaps target.now.dimensions) }
 {
-    let _ = crew;
-    let _ = left;
-    let _ = right;
-    let _ = target;
-    Err(Memory)
+    of_whole(crew, &left, &right, target)
 }

@@ -1,0 +1,10 @@
+pub mod BuildLaws
+pub mod ConcatParts
+pub mod FoundChunks
+pub mod NumberedLaws
+pub mod OrderLaws
+pub mod PairMeant
+pub mod PairParts
+pub mod PullParts
+pub mod SpreadLaws
+pub mod TurnLaws
