@@ -1,0 +1,12 @@
+pub mod AlongLaws
+pub mod ByChunkLaws
+pub mod CellLaws
+pub mod FewLaws
+pub mod LineLaws
+pub mod PartLaws
+pub mod RankLaws
+pub mod RankedRowsLaws
+pub mod RunLaws
+pub mod SortLaws
+pub mod SortedRowsLaws
+pub mod TreeLaws

@@ -1,0 +1,5 @@
+pub mod ByChunk
+pub mod Ranked
+pub mod RankedRows
+pub mod Running
+pub mod Sorted
