@@ -2,11 +2,17 @@ pub mod AlongLaws
 pub mod ByChunkLaws
 pub mod CellLaws
 pub mod FewLaws
+pub mod FoundSortLaws
+pub mod GroupOrderLaws
+pub mod KeyedLaws
 pub mod LineLaws
+pub mod NumberedChunkLaws
+pub mod NumberedLaws
 pub mod PartLaws
 pub mod RankLaws
 pub mod RankedRowsLaws
 pub mod RunLaws
 pub mod SortLaws
 pub mod SortedRowsLaws
+pub mod SpanLaws
 pub mod TreeLaws

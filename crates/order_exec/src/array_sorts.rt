@@ -8,6 +8,7 @@ ghost use Rattle.logical_plan.specs.PlanSchema.{sort_schema};
 ghost use Rattle.order_exec.specs.Inner.Sorted.{AreSorted};
 ghost use Rattle.order_exec.specs.Meant.{sort_meant};
 
+use crate::number_sorts::sorted_by_number;
 use crate::sorted_cells::{first_unsortable, in_key_order, into_cells, numbered};
 use area_cells::{assemble, broken_array};
 use array_geom::{ChunkedArray, margins_of};
@@ -25,9 +26,9 @@ fn sorted_rows(keys: &[u32], rows: List<Row>) -> Result<List<Row>, Memory>
     numbered(in_key_order(keys, cells)?)
 }
 
-/// The cells of an array that is not broken in the order of their keys.
+/// The cells of an array that is not broken in the order of their keys, from a list of all its rows.
 #[tactic(auto, using(array_geom::proofs::MarginLaws::overlap_each, array_geom::proofs::MarginLaws::overlap_places))]
-fn of_whole(array: ChunkedArray, keys: &[u32], target: &Schema) -> Result<ChunkedArray, Memory>
+fn from_rows(array: ChunkedArray, keys: &[u32], target: &Schema) -> Result<ChunkedArray, Memory>
     requires whole { array.broken ≡ None }
     requires cells { HaveCells array.schema array.margins.items array.chunks }
     requires target { target.now ≡ sort_schema array.schema }
@@ -44,6 +45,23 @@ fn of_whole(array: ChunkedArray, keys: &[u32], target: &Schema) -> Result<Chunke
             assemble(target, &margins, sorted.as_slice())
         }
     }
+}
+
+/// The cells of an array that is not broken in the order of their keys.
+fn of_whole(array: ChunkedArray, keys: &[u32], target: &Schema) -> Result<ChunkedArray, Memory>
+    requires whole { array.broken ≡ None }
+    requires cells { HaveCells array.schema array.margins.items array.chunks }
+    requires target { target.now ≡ sort_schema array.schema }
+    requires valid { IsValid target.now }
+    ensures array { IfOk result (λ made. Is made (sort_meant keys.now target.now (meant_by_cores array))) }
+    ensures margins { IfOk result (λ made. made.margins.items ≡ overlaps target.now.dimensions) }
+{
+    if let [key] = keys {
+        if let Some(sorted) = sorted_by_number(&array, *key, target)? {
+            return Ok(sorted);
+        }
+    }
+    from_rows(array, keys, target)
 }
 
 /// The cells of an array numbered from 0 in the order of their keys, attributes named by their places: an array of the target. Cells

@@ -8,11 +8,15 @@ mod keys;
 mod line_parts;
 mod line_starts;
 mod margins;
+mod number_keys;
+mod number_sorts;
+mod numbered_chunks;
 mod rank_groups;
 mod ranked_rows;
 mod running_chunks;
 mod running_rows;
 mod sorted_cells;
+mod sorted_groups;
 mod state_values;
 mod value_counts;
 

@@ -4,32 +4,16 @@ ghost use Rattle.std.specs.BTreeMap as tree;
 ghost use Rattle.cell_values.specs.declared.datum.Datum.TheVariants.{Int, Null};
 ghost use Rattle.cell_values.specs.declared.datum.Row.{Row as Placed};
 ghost use Rattle.group_rows.specs.Taken.{by_coordinate};
-ghost use Rattle.logical_plan.specs.Groups.{attribute_of, datum_cmp};
-ghost use Rattle.logical_plan.specs.Ordered.{below, rank_cell, rank_rows, sorted_by};
-ghost use Rattle.order_exec.specs.Inner.Ranked.{AreOrdered, DescribesGroups, rank_value, value_first, values_or_none};
+ghost use Rattle.logical_plan.specs.Ordered.{below, rank_cell, rank_rows};
+ghost use Rattle.order_exec.specs.Inner.Ranked.{AreOrdered, DescribesGroups, rank_value, values_or_none};
 
-use crate::keys::{compare_key, value_in};
+use crate::keys::value_in;
 use crate::rank_groups::{faults_of_groups, key_at, values_of_groups};
+use crate::sorted_groups::sorted_groups;
 use crate::value_counts::count_below;
 use cell_values::{Cell, Coord, Datum, FaultKind, List, Memory, Row, copy_coord};
 use std::alloc::Global;
-use std::cmp::Ordering;
 use std::collections::BTreeMap;
-
-fn compare_rows(attribute: u32, a: &Row, b: &Row) -> Ordering
-    ensures { result ≡ datum_cmp (attribute_of attribute a.now.cell) (attribute_of attribute b.now.cell) }
-{
-    compare_key(attribute, &a.cell, &b.cell)
-}
-
-/// The rows in the order of an attribute's values; those with the same value stay as they stand.
-fn in_value_order(attribute: u32, rows: List<Row>) -> Result<List<Row>, Memory>
-    ensures { IfOk result (λ sorted. sorted ≡ sorted_by (value_first attribute) rows) }
-{
-    let mut rows = rows.into_vec();
-    rows.sort_by(|a, b| compare_rows(attribute, a, b))?;
-    Ok(List::from_vec(rows))
-}
 
 fn fault_at(faults: &BTreeMap<Coord, FaultKind>, group: &Coord) -> Option<FaultKind>
     ensures { result ≡ tree.get by_coordinate faults.now group.now }
@@ -119,8 +103,8 @@ pub(crate) fn ranked_rows(
 {
     let alloc = rows.allocator();
     let faults = faults_of_groups(alloc, attribute, dims, rows.as_slice())?;
-    let sorted = in_value_order(attribute, rows.copy()?)?;
-    let values = values_of_groups(alloc, attribute, dims, sorted.as_slice())?;
+    let groups = values_of_groups(alloc, attribute, dims, rows.as_slice())?;
+    let values = sorted_groups(alloc, groups)?;
     let mut made = List::with_capacity(alloc, rows.len())?;
     for row in rows.as_slice() {
         let cell = ranked_cell(alloc, &values, &faults, attribute, dims, row)?;

@@ -15,7 +15,7 @@ use Rattle.array_rows.specs.Rows.{Coordinate, row_major}
 use Rattle.logical_plan.specs.declared.parts.AggFunction.TheVariants.{Count}
 use Rattle.logical_plan.specs.BoxOps.{numbers_at}
 use Rattle.logical_plan.specs.Groups.{attribute_of, cells_of, datum_cmp, fault_for, first_some, group_at, unless, values_of}
-use Rattle.logical_plan.specs.Ordered.{below}
+use Rattle.logical_plan.specs.Ordered.{below, sorted_by}
 use Rattle.group_rows.specs.Taken.{by_coordinate}
 
 -- no value comes before an earlier one
@@ -50,10 +50,6 @@ TakesFault x dims row old new = (q : ArrayVec ℤ) → tree.get by_coordinate ne
 abbrev pub HoldsFaults : ℕ → List ℕ → List Row → BTreeMap (ArrayVec ℤ) FaultKind → Type 0
 HoldsFaults x dims rows groups = (q : ArrayVec ℤ) → tree.get by_coordinate groups q ≡ first_some (fault_for Count x) (cells_of (group_at (numbers_at dims) q.items rows))
 
--- rows in the order of an attribute
-abbrev pub value_first : ℕ → Row → Row → Bool
-value_first x a b = is_lt (datum_cmp (attribute_of x a.cell) (attribute_of x b.cell))
-
 -- each group's values are in order
 abbrev pub AreOrdered : BTreeMap (ArrayVec ℤ) (List Datum) → Type 0
 AreOrdered values = (q : ArrayVec ℤ) → AreInOrder (values_or_none (tree.get by_coordinate values q))
@@ -66,3 +62,10 @@ rank_value fault v vs = unless fault (if is_null v then Null else Int (pos (1 + 
 pub record DescribesGroups (x : ℕ) (dims : List ℕ) (rows : List Row) (values : BTreeMap (ArrayVec ℤ) (List Datum)) (faults : BTreeMap (ArrayVec ℤ) FaultKind) : Type 0 where
   pub first : HoldsFaults x dims rows faults
   pub counts : (q : ArrayVec ℤ) (v : Datum) → below v (values_or_none (tree.get by_coordinate values q)) ≡ below v (values_of x (cells_of (group_at (numbers_at dims) q.items rows)))
+
+abbrev pub value_before : Datum → Datum → Bool
+value_before v w = is_lt (datum_cmp v w)
+
+-- each group's values in their order
+abbrev pub SortsValues : BTreeMap (ArrayVec ℤ) (List Datum) → BTreeMap (ArrayVec ℤ) (List Datum) → Type 0
+SortsValues groups sorted = (q : ArrayVec ℤ) → values_or_none (tree.get by_coordinate sorted q) ≡ sorted_by value_before (values_or_none (tree.get by_coordinate groups q))

@@ -1,14 +1,14 @@
-use Rattle.std.proofs.Common.{◌≡◌, ◌<◌, List, length, get_or, ap, ◌∙◌, subst}
+use Rattle.std.proofs.Common.{◌≡◌, ◌<◌, List, length, get_or, ◌∙◌, subst}
 use Rattle.cell_values.specs.declared.datum.Row.{Row}
-use Rattle.logical_plan.specs.Ordered.{rank_cell, sorted_by}
-use Rattle.order_exec.specs.Inner.Ranked.{HoldsFaults, value_first}
+use Rattle.logical_plan.specs.Ordered.{rank_cell}
+use Rattle.order_exec.specs.Inner.Ranked.{HoldsFaults, HoldsValues}
 use Rattle.order_exec.proofs.RankedRowsLaws.{knows, one_ranked, ordered}
 use Rattle.order_exec.proofs.ranked_rows.ranked_rows.Goals as goal
 
 pub ranked_cell-requires-clause-order : goal.ranked_cell-requires-clause-order
 ranked_cell-requires-clause-order c =
-    ordered c.args.attribute c.args.dims.now c.args.rows.now c.as_slice-2.result.now c.in_ok-values.values
-    (c.as_slice-2.ensures ∙ c.in_ok-sorted.ensures ∙ ap (sorted_by (value_first c.args.attribute)) c.in_ok-copy.ensures) c.in_ok-values.ensures
+    ordered c.args.attribute c.args.dims.now c.args.rows.now c.in_ok-groups.groups c.in_ok-values.values
+    (subst (λ (rs : List Row). HoldsValues c.args.attribute c.args.dims.now rs c.in_ok-groups.groups) c.as_slice-2.ensures c.in_ok-groups.ensures) c.in_ok-values.ensures
 
 pub loop-row-preserved : goal.loop-row-preserved
 loop-row-preserved c =
@@ -16,8 +16,7 @@ loop-row-preserved c =
     let dims = c.args.dims.now in
     let rows = c.args.rows.now in
     let known =
-    knows x dims rows c.as_slice-2.result.now c.in_ok-values.values
-    (c.as_slice-2.ensures ∙ c.in_ok-sorted.ensures ∙ ap (sorted_by (value_first x)) c.in_ok-copy.ensures) c.in_ok-values.ensures c.in_ok-faults.faults
+    knows x dims rows c.in_ok-groups.groups c.in_ok-values.values (subst (λ (rs : List Row). HoldsValues x dims rs c.in_ok-groups.groups) c.as_slice-2.ensures c.in_ok-groups.ensures) c.in_ok-values.ensures c.in_ok-faults.faults
     (subst (λ (rs : List Row). HoldsFaults x dims rs c.in_ok-faults.faults) c.as_slice.ensures c.in_ok-faults.ensures) in
     c.in_ok-push.ensures.ok
     ∙ one_ranked (rank_cell x dims rows) rows c.loop-row.made c.loop-row.row-index c.row-item.result (record { at = c.copy_coord.result; cell = c.in_ok-cell.cell })

@@ -4,7 +4,7 @@ use Rattle.logical_plan.specs.Ordered.{unsortable_at}
 use Rattle.group_rows.proofs.WholeLaws.{of_cores, stands_for}
 use Rattle.group_rows.proofs.SortedLaws.{sorted_are_rows}
 use Rattle.order_exec.proofs.SortedRowsLaws.{meant_sorted}
-use Rattle.order_exec.proofs.array_sorts.of_whole.Goals as goal
+use Rattle.order_exec.proofs.array_sorts.from_rows.Goals as goal
 
 pub assemble-requires-clause-rows : goal.assemble-requires-clause-rows
 assemble-requires-clause-rows c =
