@@ -8,5 +8,4 @@ mod moving;
 mod places;
 mod telling;
 
-pub use area_cells::bounds_of;
 pub use arrays::{groups_landed, redimension, redimension_cells};

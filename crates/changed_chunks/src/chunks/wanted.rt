@@ -7,9 +7,9 @@ ghost use Rattle.changed_chunks.specs.Inner.Reach.{places_near, reach};
 ghost use Rattle.changed_chunks.specs.Wanted.{is_wanted, target_wanted};
 
 use crate::chunks::versions::has_row_in;
+use area_cells::bounds_of;
 use array_geom::{Boxes, ChunkedArray, chunk_of, frame, has_core};
 use cell_values::{Bounds, ChunkAt, List, Margins, Memory, Schema};
-use redimension_exec::bounds_of;
 
 /// The places of the array in a chunk's frame.
 fn places_near(schema: &Schema, margins: &Margins, number: &ChunkAt) -> Bounds

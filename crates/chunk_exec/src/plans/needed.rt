@@ -5,11 +5,11 @@ ghost use Rattle.array_rows.specs.Boxes.{bounds_of};
 ghost use Rattle.logical_plan.specs.Typing.{IsTyped};
 ghost use Rattle.plan_needs.specs.Wanted.{whole_need};
 
+use area_cells::bounds_of;
 use cell_values::{Bounds, List, Memory, Schema};
 use logical_plan::Plan;
 use plan_needs::need;
 use plan_schemas::schema_of;
-use redimension_exec::bounds_of;
 use std::alloc::Global;
 
 /// All places of an array.
