@@ -1,5 +1,5 @@
 //! What a cell adds to a state, and what two states have together.
-ghost use Rattle.std.specs.Prelude.{◌≡◌, ◌^◌, ◌<◌, slice_index_or, OnOk, OnErr};
+ghost use Rattle.std.specs.Prelude.{◌≡◌, ◌^◌, ◌<◌, slice_index_or, IfOk, OnOk, OnErr};
 ghost use Rattle.std.specs.Option.{option_map};
 ghost use Rattle.cell_values.specs.declared.datum.Datum.TheVariants.{Int, Null};
 ghost use Rattle.logical_plan.specs.Groups.{attribute_of, bad_kind, fault_for, number_of};
@@ -146,6 +146,24 @@ pub(crate) fn better_of(function: AggFunction, a: Option<Datum>, b: Option<Datum
                 }
             }
         },
+    }
+}
+
+pub(crate) fn copy_best(best: &Option<Datum>) -> Result<Option<Datum>, Memory>
+    ensures { IfOk result (λ copy. copy ≡ best.now) }
+{
+    match best {
+        Some(value) => Ok(Some(value.copy()?)),
+        None => Ok(None),
+    }
+}
+
+pub(crate) fn copy_fault(fault: &Option<Broken>) -> Option<Broken>
+    ensures { result ≡ fault.now }
+{
+    match fault {
+        Some(broken) => placed_fault(&broken.at, Some(broken.kind)),
+        None => None,
     }
 }
 

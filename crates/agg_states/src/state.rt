@@ -1,5 +1,5 @@
 //! The state of an aggregate.
-ghost use Rattle.std.specs.Prelude.{◌≡◌, ◌+◌, ◌^◌, ◌<◌, List as Items, [], None, IsTrue, OnOk, OnErr};
+ghost use Rattle.std.specs.Prelude.{◌≡◌, ◌+◌, ◌^◌, ◌<◌, List as Items, [], None, IsTrue, IfOk, OnOk, OnErr};
 ghost use Rattle.std.specs.List.{AllByRecursion};
 ghost use Rattle.cell_values.specs.declared.datum.Datum.TheVariants.{Int};
 ghost use Rattle.cell_values.specs.declared.datum.Row.{Row};
@@ -12,10 +12,10 @@ ghost use Rattle.logical_plan.specs.Typing.{is_aggregate_of};
 ghost use Rattle.agg_states.specs.Stands.{StandsFor, AreApart};
 
 use crate::parts::{
-    better_of, count_of, earlier_of, fault_in, keep_best, keep_number, number_of, outcome,
-    placed_fault, value_in,
+    better_of, copy_best, copy_fault, count_of, earlier_of, fault_in, keep_best, keep_number,
+    number_of, outcome, placed_fault, value_in,
 };
-use cell_values::{Broken, Cell, Coord, Datum, Memory};
+use cell_values::{Broken, Cell, Coord, Copies, Datum, Memory};
 use logical_plan::AggFunction;
 use std::marker::Model;
 
@@ -133,5 +133,39 @@ impl AggState {
             Some(broken) => Datum::Bad(broken.kind),
             None => outcome(function, cells, values, total, best),
         }
+    }
+
+    /// The same as `finish`, of a state that may take further cells.
+    pub fn value(&self) -> Result<Datum, Memory>
+        ensures { IfOk result (λ value. (g : Aggregate) (attributes : Items Attribute) (rows : Items Row) → StandsFor g rows self.now
+            → IsTrue (is_aggregate_of attributes g) → AllByRecursion (λ row. IsCellOf attributes row.cell) rows → value ≡ aggregate_of g (cells_of rows)) }
+    {
+        match &self.fault {
+            Some(broken) => Ok(Datum::Bad(broken.kind)),
+            None => {
+                let best = copy_best(&self.best)?;
+                Ok(outcome(self.function, self.cells, self.values, self.total, best))
+            }
+        }
+    }
+
+    /// An equal state.
+    pub fn copy(&self) -> Result<AggState, Memory>
+        ensures { IfOk result (λ copy. copy ≡ self.now) }
+    {
+        Ok(AggState {
+            function: self.function,
+            fault: copy_fault(&self.fault),
+            cells: self.cells,
+            values: self.values,
+            total: self.total,
+            best: copy_best(&self.best)?,
+        })
+    }
+}
+
+impl Copies for AggState {
+    fn copy(&self) -> Result<AggState, Memory> {
+        self.copy()
     }
 }

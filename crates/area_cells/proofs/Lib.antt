@@ -2,10 +2,12 @@ pub use Rattle.chunk_cells.proofs.MergeLaws
 pub use Rattle.chunk_cells.proofs.NumberLaws
 pub mod ApartLaws
 pub mod BandLaws
+pub mod BoundLaws
 pub mod CountLaws
 pub mod CutLaws
 pub mod FillLaws
 pub mod FoundLaws
+pub mod FrameLaws
 pub mod ListedLaws
 pub mod PieceLaws
 pub mod StretchLaws

@@ -1,11 +1,12 @@
 -- Lists as functions read them from the front, and as loops fill them.
 use Rattle.std.proofs.Common.{◌≡◌, ◌∙◌, Bool, false, if◌then◌else◌, ℕ, ◌+◌, ◌≤◌, ◌<◌, List, [], ◌∷◌, ◌++◌, append-nil, append_assoc, map, length, take, get_or, Option, Some, sym, ap, arith}
 use Rattle.std.specs.Option.{option_map}
-use Rattle.std.proofs.lemmas.List.{length-map, length-take-le, map-append, map_more}
+use Rattle.std.proofs.lemmas.List.{length-map, map-append, map_more}
 use Rattle.cell_values.specs.declared.schema.Dimension.{Dimension}
 use Rattle.cell_values.specs.declared.schema.Schema.{Schema}
 use Rattle.cell_values.specs.Schemas.{IsValid}
 use Rattle.array_geom.proofs.Fronts.{rest, rest_is}
+use Rattle.area_cells.proofs.BoundLaws.{one_more}
 use Rattle.logical_plan.specs.Redimension.{Origin, place_where}
 use Rattle.redimension_exec.specs.declared.places.places.Place.{Place}
 use Rattle.redimension_exec.specs.Inner.Places.{origin}
@@ -35,14 +36,6 @@ behind p (y ∷ ys) x found _ first fails is =
     ∙ sym (ap (λ (b : Bool). if b then Some 0 else option_map (λ n. n + 1) (place_where p ys)) (sym (ap p first) ∙ fails))
 
 -- ---- what a loop has pushed so far
-
-pub room_for : {A B : Type 0} (f : A → B) (xs : List A) (i : ℕ) (out : List B) → out ≡ map f (take i xs) → i < length xs → length xs ≤ 6 → length out < 6
-room_for f xs i out is less few = omega (arith, less, few, ap length is ∙ length-map (take i xs) f ∙ length-take-le i xs (omega (arith, less)))
-
-pub one_more : {A B : Type 0} (f : A → B) (xs : List A) (i : ℕ) (x : A) (z : B) (old new : List B) → i < length xs → x ≡ get_or xs i x
-    → old ≡ map f (take i xs) → new ≡ old ++ z ∷ [] → z ≡ f x → new ≡ map f (take (i + 1) xs)
-one_more {A} {B} f xs i x z old new less item is pushed same =
-    pushed ∙ ap (λ (l : List B). l ++ z ∷ []) is ∙ ap (λ (y : B). map f (take i xs) ++ y ∷ []) (same ∙ ap f item) ∙ sym (map_more f xs i x less)
 
 pub place_more : {A : Type 0} (f : A → Origin) (xs : List A) (i : ℕ) (x : A) (p : Place) (old new : List Place) → i < length xs → x ≡ get_or xs i x
     → map origin old ≡ map f (take i xs) → new ≡ old ++ p ∷ [] → origin p ≡ f x → map origin new ≡ map f (take (i + 1) xs)

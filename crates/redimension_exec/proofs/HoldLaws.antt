@@ -1,12 +1,9 @@
 -- Chunks without margins that hold rows, with one row more.
-use Rattle.std.proofs.Common.{◌≡◌, ℕ, suc, ◌+◌, ◌*◌, ◌≤◌, ◌^◌, ℤ, pos, ◌+ℤ◌, ◌-ℤ◌, ◌≤ℤ◌, Bool, true, false, cond, ◌&&◌, List, [], ◌∷◌, ◌++◌, length, Option, Some, None, refl, sym, ap, ◌∙◌, subst, arith}
-use Rattle.std.proofs.lemmas.Int.{ints, clamps}
+use Rattle.std.proofs.Common.{◌≡◌, ℕ, suc, ◌+◌, Bool, true, false, cond, List, [], ◌∷◌, ◌++◌, length, Option, Some, None, refl, sym, ap, ◌∙◌, subst}
 use Rattle.std.proofs.lemmas.List.{append-nil}
-use Rattle.std.proofs.lemmas.Nat.{mul-le}
 use Rattle.std.specs.BTreeMap as tree
 use Rattle.std.specs.BTreeMap.{BTreeMap, Updates}
 use Rattle.std.specs.Option.{unwrap_or}
-use Rattle.std.specs.Int.{int_min}
 use Rattle.std.specs.Ordering.{is_eq}
 use Rattle.std.specs.Prelude.{int_le}
 use Rattle.std.specs.declared.cmp.Ordering.{Ordering}
@@ -19,58 +16,19 @@ use Rattle.cell_values.specs.Schemas.{IsValid}
 use Rattle.array_rows.specs.Boxes.{bounds_of, is_inside, within}
 use Rattle.array_rows.specs.Rows.{Coordinate}
 use Rattle.array_geom.specs.declared.chunk.Chunk.{Chunk}
-use Rattle.array_geom.specs.Geometry.{ChunkNumber, HasFrame, chunk_of, core, first_in, frame, frame_lengths, has_core, last_in, overlaps, position_of, volume}
+use Rattle.array_geom.specs.Geometry.{ChunkNumber, HasFrame, chunk_of, core, first_in, frame, has_core, position_of}
 use Rattle.array_geom.specs.Link.{IsPart, number_order}
 use Rattle.array_geom.proofs.CoreLaws.{chunk_has_core, core_has, core_in_frame}
-use Rattle.array_geom.proofs.MarginLaws.{overlap_places}
 use Rattle.array_geom.proofs.NearLemmas.{valid_placed}
 use Rattle.array_geom.proofs.NumberLaws.{is_equal, same_number}
-use Rattle.array_geom.proofs.TestLaws.{and_parts, and_both, le_test, le_from_test}
+use Rattle.array_geom.proofs.TestLaws.{and_parts}
 use Rattle.array_parts.specs.Made.{with_cell}
 use Rattle.chunk_cells.proofs.CellLaws.{in_own_core, within-more}
 use Rattle.chunk_cells.proofs.PartLaws.{skips, takes}
-use Rattle.redimension_exec.specs.Inner.Filling.{AreIn, IsHeld, IsHeldAt, by_number, chunk_at, no_cells, no_margins}
+use Rattle.area_cells.specs.Margins.{no_margins}
+use Rattle.area_cells.proofs.FrameLaws.{each_none, frame_in_core, places_none}
+use Rattle.redimension_exec.specs.Inner.Filling.{AreIn, IsHeld, IsHeldAt, by_number, chunk_at, no_cells}
 use Rattle.redimension_exec.specs.declared.filling.chunks.Filled.{Filled}
-
--- ---- frames without margins
-
-low_side : (l x : ℤ) → (l -ℤ pos 0) ≤ℤ x → l ≤ℤ x
-low_side l x h = omega (arith, ints)
-
-high_side : (x y z : ℤ) → x ≤ℤ y → x ≤ℤ (z +ℤ pos 0) → x ≤ℤ (int_min y z)
-high_side x y z h k = omega (arith, ints, clamps)
-
--- within the bounds such a frame is its core
-frame_in_core : (dims : List Dimension) (k : ChunkNumber) (c : Coordinate) → is_inside (bounds_of dims) c ≡ true → is_inside (frame dims (no_margins dims) k) c ≡ true → is_inside (core dims k) c ≡ true
-frame_in_core [] k c b e = e
-frame_in_core (d ∷ dims) [] c b e = e
-frame_in_core (d ∷ dims) (q ∷ k) [] b e = e
-frame_in_core (d ∷ dims) (q ∷ k) (x ∷ c) b e =
-    let s = and_parts (int_le d.lo x && int_le x d.hi) (is_inside (bounds_of dims) c) b in
-    let t = and_parts (int_le d.lo x) (int_le x d.hi) s.0 in
-    let u = and_parts (int_le (first_in d q -ℤ pos 0) x && int_le x (last_in d q +ℤ pos 0)) (is_inside (frame dims (no_margins dims) k) c) e in
-    let v = and_parts (int_le (first_in d q -ℤ pos 0) x) (int_le x (last_in d q +ℤ pos 0)) u.0 in
-    and_both (int_le (first_in d q) x && int_le x (int_min d.hi (last_in d q))) (is_inside (core dims k) c)
-    (and_both (int_le (first_in d q) x) (int_le x (int_min d.hi (last_in d q))) (le_test (first_in d q) x (low_side (first_in d q) x (le_from_test _ _ v.0)))
-    (le_test x (int_min d.hi (last_in d q)) (high_side x d.hi (last_in d q) (le_from_test _ _ t.1) (le_from_test _ _ v.1))))
-    (frame_in_core dims k c s.1 u.1)
-
-product : (n m a b : ℕ) → a ≤ b → (n + 2 * 0) * a ≤ (n + 2 * m) * b
-product n m a b h = mul-le (n + 2 * 0) a (n + 2 * m) b (omega arith) h
-
-no_larger : (dims : List Dimension) → volume (frame_lengths dims (no_margins dims)) ≤ volume (frame_lengths dims (overlaps dims))
-no_larger [] = omega arith
-no_larger (d ∷ dims) = product d.chunk d.overlap (volume (frame_lengths dims (no_margins dims))) (volume (frame_lengths dims (overlaps dims))) (no_larger dims)
-
-pub each_none : (dims : List Dimension) → length (no_margins dims) ≡ length dims
-each_none [] = refl
-each_none (d ∷ dims) = ap suc (each_none dims)
-
-pub places_none : (target : Schema) → IsValid target → volume (frame_lengths target.dimensions (no_margins target.dimensions)) ≤ 2 ^ 48
-places_none target valid =
-    let small = overlap_places target (overlaps target.dimensions) refl valid in
-    let less = no_larger target.dimensions in
-    omega (arith, small, less)
 
 pub long_as_core : (dims : List Dimension) (k : ChunkNumber) → has_core dims k ≡ true → length k ≡ length dims
 long_as_core [] [] e = refl

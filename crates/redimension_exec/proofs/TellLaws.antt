@@ -37,10 +37,12 @@ use Rattle.chunk_cells.specs.Fitted.{HasValues}
 use Rattle.chunk_cells.proofs.FitLaws.{fitted_rows, have_values}
 use Rattle.chunk_cells.proofs.NumberLaws.{number_order_total}
 use Rattle.logical_plan.specs.CellOps.{fit_cell, fit_rows}
-use Rattle.redimension_exec.specs.Inner.Filling.{IsHeld, IsHeldAt, by_number, no_margins}
+use Rattle.area_cells.specs.Margins.{no_margins}
+use Rattle.area_cells.proofs.FrameLaws.{each_none, places_none}
+use Rattle.redimension_exec.specs.Inner.Filling.{IsHeld, IsHeldAt, by_number}
 use Rattle.redimension_exec.specs.Inner.Telling.{CanBeTold, CanTell, IsToldOf, told_rows}
 use Rattle.redimension_exec.specs.Inner.Sorting.{AreDifferent}
-use Rattle.redimension_exec.proofs.HoldLaws.{each_none, long_as_core, places_none}
+use Rattle.redimension_exec.proofs.HoldLaws.{long_as_core}
 
 -- ---- the rows of a chunk, cell by cell
 

@@ -2,4 +2,4 @@
 
 mod chunks;
 
-pub(crate) use chunks::{Filled, fill, no_margins};
+pub(crate) use chunks::{Filled, fill};

@@ -4,16 +4,15 @@ ghost use Rattle.cell_values.specs.Schemas.{IsValid};
 ghost use Rattle.array_rows.specs.Boxes.{bounds_of};
 ghost use Rattle.array_geom.specs.Link.{core_rows};
 ghost use Rattle.array_parts.specs.Cores.{cores_of};
+ghost use Rattle.area_cells.specs.Margins.{no_margins};
 ghost use Rattle.logical_plan.specs.Redimension.{origin_of, value_origin};
 ghost use Rattle.redimension_exec.specs.Inner.Bands.{AreBands};
-ghost use Rattle.redimension_exec.specs.Inner.Filling.{Fill, HoldsAll, HoldsLanded, IsFinished, IsTarget, no_margins};
+ghost use Rattle.redimension_exec.specs.Inner.Filling.{Fill, HoldsAll, HoldsLanded, IsFinished, IsTarget};
 ghost use Rattle.redimension_exec.specs.Inner.Places.{origin};
 
 use crate::filling::Filled;
-use crate::places::{
-    Place, Target, bounds_of, fill_rows, places_of_attributes, places_of_dimensions,
-};
-use area_cells::{half_of_bands, rows_of_chunks};
+use crate::places::{Place, Target, fill_rows, places_of_attributes, places_of_dimensions};
+use area_cells::{bounds_of, half_of_bands, rows_of_chunks};
 use array_geom::{Chunk, ChunkedArray};
 use cell_values::{Bounds, Broken, ChunkAt, Coord, List, Margins, Memory, Schema};
 use std::collections::BTreeMap;

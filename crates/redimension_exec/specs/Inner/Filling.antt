@@ -11,13 +11,13 @@ use Rattle.cell_values.specs.declared.datum.FaultKind.{FaultKind}
 use Rattle.cell_values.specs.declared.datum.Row.{Row}
 use Rattle.cell_values.specs.declared.memory.Memory.{Memory}
 use Rattle.cell_values.specs.declared.schema.Bounds.{Bounds}
-use Rattle.cell_values.specs.declared.schema.Dimension.{Dimension}
 use Rattle.cell_values.specs.declared.schema.Schema.{Schema}
 use Rattle.cell_values.specs.Schemas.{IsValid}
 use Rattle.array_rows.specs.Boxes.{bounds_of, is_inside, within}
 use Rattle.array_geom.specs.declared.chunk.Chunk.{Chunk}
 use Rattle.array_geom.specs.Geometry.{ChunkNumber, HasFrame, frame}
 use Rattle.array_geom.specs.Link.{IsPart, number_order}
+use Rattle.area_cells.specs.Margins.{no_margins}
 use Rattle.logical_plan.specs.Redimension.{Origin, landed, origin_of, value_origin}
 use Rattle.redimension_exec.specs.declared.filling.chunks.Filled.{Filled}
 use Rattle.redimension_exec.specs.declared.places.landing.Step.{Step}
@@ -30,10 +30,6 @@ use Rattle.redimension_exec.specs.Inner.Steps.{AreSteps, IsStep, continued, targ
 
 abbrev pub by_number : ArrayVec ℕ → ArrayVec ℕ → Ordering
 by_number v w = number_order v.items w.items
-
--- a margin of 0 for each dimension
-abbrev pub no_margins : List Dimension → List ℕ
-no_margins dims = map (λ d. 0) dims
 
 -- the chunk of that number without a cell
 abbrev pub no_cells : ArrayVec ℕ → Chunk

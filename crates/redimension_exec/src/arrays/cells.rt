@@ -4,15 +4,15 @@ ghost use Rattle.cell_values.specs.Schemas.{IsValid};
 ghost use Rattle.array_parts.specs.Cores.{HasCells, HaveCells, cores_of, meant_by_cores};
 ghost use Rattle.array_geom.specs.Geometry.{overlaps};
 ghost use Rattle.array_geom.specs.Link.{Is};
+ghost use Rattle.area_cells.specs.Margins.{no_margins};
 ghost use Rattle.logical_plan.specs.Meaning.{redimensioned_from};
 ghost use Rattle.logical_plan.specs.Typing.{redimensions};
-ghost use Rattle.redimension_exec.specs.Inner.Filling.{HoldsLanded, no_margins};
+ghost use Rattle.redimension_exec.specs.Inner.Filling.{HoldsLanded};
 
 use crate::arrays::building::broken_target;
-use crate::filling::no_margins;
 use crate::moving::filled_in_bands;
 use crate::telling::told_array;
-use area_cells::are_few;
+use area_cells::{are_few, no_margins};
 use array_geom::{Chunk, ChunkedArray};
 use cell_values::{Broken, ChunkAt, Margins, Memory, Schema};
 use std::collections::BTreeMap;

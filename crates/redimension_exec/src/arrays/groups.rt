@@ -8,7 +8,8 @@ ghost use Rattle.redimension_exec.specs.Inner.Counting.{has_counted};
 ghost use Rattle.redimension_exec.specs.Inner.Grouping.{AreGroupsLanded};
 
 use crate::landings::groups_from;
-use crate::places::{bounds_of, places_of_dimensions};
+use crate::places::places_of_dimensions;
+use area_cells::bounds_of;
 use cell_values::{Broken, List, Memory, Row, Schema};
 use group_rows::Groups;
 use logical_plan::Aggregate;

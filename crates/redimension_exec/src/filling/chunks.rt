@@ -1,5 +1,5 @@
 //! Chunks that take the rows that land, each at the end.
-ghost use Rattle.std.specs.Prelude.{◌≡◌, ℕ, ◌+◌, ◌≤◌, ◌++◌, ◌∷◌, [], List as Items, Some, None, false, length, IsTrue, OnOk, IfOk};
+ghost use Rattle.std.specs.Prelude.{◌≡◌, ℕ, ◌+◌, ◌++◌, ◌∷◌, [], List as Items, Some, None, false, IsTrue, OnOk, IfOk};
 ghost use Rattle.std.specs.BTreeMap as tree;
 ghost use Rattle.std.specs.Option.{unwrap_or};
 ghost use Rattle.std.specs.Ordering.{is_eq};
@@ -8,39 +8,14 @@ ghost use Rattle.cell_values.specs.declared.datum.Row.{Row as Placed};
 ghost use Rattle.cell_values.specs.Schemas.{IsValid};
 ghost use Rattle.array_rows.specs.Boxes.{bounds_of, is_inside};
 ghost use Rattle.array_parts.specs.Made.{with_cell};
-ghost use Rattle.redimension_exec.specs.Inner.Filling.{AreIn, by_number, chunk_at, no_cells, no_margins};
+ghost use Rattle.area_cells.specs.Margins.{no_margins};
+ghost use Rattle.redimension_exec.specs.Inner.Filling.{AreIn, by_number, chunk_at, no_cells};
 
 use array_geom::{Chunk, chunk_of, position};
 use array_rows::Cells;
-use cell_values::{
-    Cell, ChunkAt, Dimension, Margins, Memory, Row, Schema, compare_numbers, copy_numbers,
-};
+use cell_values::{Cell, ChunkAt, Margins, Memory, Row, Schema, compare_numbers, copy_numbers};
 use std::alloc::Global;
 use std::collections::BTreeMap;
-
-fn push_none(margins: &mut Margins, dims: &[Dimension])
-    requires { length margins.old.items + length dims.now ≤ 6 }
-    ensures { margins.new.items ≡ margins.old.items ++ no_margins dims.now }
-{
-    match dims {
-        [] => {}
-        [_, dims @ ..] => {
-            margins.push(0);
-            push_none(margins, dims);
-        }
-    }
-}
-
-/// A margin of 0 for each dimension.
-#[tactic(auto, using(array_geom::proofs::MarginLaws::few_dimensions))]
-pub(crate) fn no_margins(target: &Schema) -> Margins
-    requires { IsValid target.now }
-    ensures { result.items ≡ no_margins target.now.dimensions }
-{
-    let mut margins = Margins::new();
-    push_none(&mut margins, target.dimensions.as_slice());
-    margins
-}
 
 /// The chunk that took the last cell, which is not looked for again while cells land there, and the others by their numbers.
 #[derive(Drop)]

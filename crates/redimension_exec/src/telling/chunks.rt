@@ -7,7 +7,7 @@ ghost use Rattle.cell_values.specs.declared.datum.Row.{Row as Placed};
 ghost use Rattle.array_geom.specs.Geometry.{HasFrame, frame_lengths, overlaps, volume};
 ghost use Rattle.array_geom.specs.Inner.Ranges.{IsGrid};
 ghost use Rattle.array_geom.specs.Link.{Is, chunk_rows, rows_in};
-ghost use Rattle.redimension_exec.specs.Inner.Filling.{no_margins};
+ghost use Rattle.area_cells.specs.Margins.{no_margins};
 ghost use Rattle.redimension_exec.specs.Inner.Telling.{CanBeTold, CanTell, IsToldOf, told_rows};
 
 use crate::telling::rows::in_order;

@@ -1,0 +1,6 @@
+use Rattle.std.proofs.Common.{take}
+use Rattle.order_exec.specs.Inner.Ranked.{HoldsValues}
+use Rattle.order_exec.proofs.rank_groups.values_of_groups.Given as goal
+
+abbrev pub invariant-loop-row : goal.invariant-loop-row
+invariant-loop-row l = HoldsValues l.attribute l.dims (take l.row-index l.rows) l.groups

@@ -1,0 +1,7 @@
+pub mod ByChunk
+pub mod Keyed
+pub mod Ranked
+pub mod RankedRows
+pub mod Running
+pub mod Sorted
+pub mod Spans

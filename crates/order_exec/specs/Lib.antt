@@ -1,0 +1,4 @@
+pub mod Continued
+pub mod Inner
+pub mod Lines
+pub mod Meant

@@ -1,0 +1,27 @@
+//! `sort`, `rank` and `cumulate`.
+#![tactic(auto)]
+
+mod array_cumulates;
+mod array_ranks;
+mod array_sorts;
+mod keys;
+mod line_parts;
+mod line_starts;
+mod margins;
+mod number_keys;
+mod number_sorts;
+mod numbered_chunks;
+mod rank_groups;
+mod ranked_rows;
+mod running_chunks;
+mod running_rows;
+mod sorted_cells;
+mod sorted_groups;
+mod state_values;
+mod value_counts;
+
+pub use array_cumulates::cumulate;
+pub use array_ranks::rank;
+pub use array_sorts::sort;
+pub use group_rows::Group;
+pub use line_parts::{Lines, cumulate_chunk, join_lines, line_part};
