@@ -1,5 +1,5 @@
 -- Aggregates of whole arrays.
-use Rattle.std.proofs.Common.{◌≡◌, ℕ, ◌≤◌, IsTrue, List, [], ◌∷◌, length, None, Result, Ok, Err, sym, ap, ◌∙◌, subst, arith}
+use Rattle.std.proofs.Common.{◌≡◌, ℕ, ◌≤◌, IsTrue, List, [], ◌∷◌, length, Some, None, Result, Ok, Err, sym, ap, ◌∙◌, subst, arith}
 use Rattle.std.proofs.lemmas.List.{length-map}
 use Rattle.std.specs.Prelude.{IfOk}
 use Rattle.cell_values.specs.declared.datum.Broken.{Broken}
@@ -36,6 +36,12 @@ pub means_whole : (schema_of : Schema → Schema) (rows_of : Schema → List Row
 means_whole schema_of rows_of array schema new none e m =
     let rows : Ok new ≡ if_whole (rows_of array.schema) (unless_broken array.broken (cores_of array)) =
     ap (λ (z : List Row). Ok z) m ∙ ap (λ b. if_whole (rows_of array.schema) (unless_broken b (cores_of array))) (sym none) in
+    λ i. meant_of (e i) (rows i)
+
+pub means_broken : (schema_of : Schema → Schema) (rows_of : Schema → List Row → List Row) (array : ChunkedArray) (schema : Schema) (broken : Broken)
+    → schema ≡ schema_of array.schema → array.broken ≡ Some broken → meant_of schema (Err broken) ≡ means schema_of rows_of (meant_by_cores array)
+means_broken schema_of rows_of array schema broken e b =
+    let rows : Err broken ≡ if_whole (rows_of array.schema) (unless_broken array.broken (cores_of array)) = ap (λ z. if_whole (rows_of array.schema) (unless_broken z (cores_of array))) (sym b) in
     λ i. meant_of (e i) (rows i)
 
 pub stands_for : (r : Result ChunkedArray Memory) (a b : Meant) → a ≡ b → IfOk r (λ made. Is made a) → IfOk r (λ made. Is made b)

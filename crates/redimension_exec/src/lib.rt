@@ -8,4 +8,5 @@ mod moving;
 mod places;
 mod telling;
 
+pub use area_cells::bounds_of;
 pub use arrays::{groups_landed, redimension, redimension_cells};
