@@ -4,6 +4,7 @@ pub mod CellLaws
 pub mod FewLaws
 pub mod FoundSortLaws
 pub mod GroupOrderLaws
+pub mod HullLaws
 pub mod KeyedLaws
 pub mod LineLaws
 pub mod NumberedChunkLaws

@@ -4,6 +4,7 @@
 mod array_cumulates;
 mod array_ranks;
 mod array_sorts;
+mod core_hulls;
 mod keys;
 mod line_parts;
 mod line_starts;

@@ -1,7 +1,7 @@
 //! Arrays sorted by one key whose values are numbers: of each cell its key and its place alone are taken, and these are sorted.
 ghost use Rattle.std.specs.Prelude.{◌≡◌, ◌+◌, ◌≤◌, ◌++◌, ◌∷◌, [], true, None, length, IsTrue, IfOk, IfSome};
 ghost use Rattle.cell_values.specs.Schemas.{IsValid};
-ghost use Rattle.array_rows.specs.Boxes.{bounds_of, by_pairs, is_inside};
+ghost use Rattle.array_rows.specs.Boxes.{by_pairs, is_inside};
 ghost use Rattle.array_rows.specs.Rows.{Coordinate};
 ghost use Rattle.array_geom.specs.Geometry.{overlaps};
 ghost use Rattle.array_geom.specs.Inner.Ranges.{IsGrid, is_in_grid};
@@ -11,6 +11,7 @@ ghost use Rattle.logical_plan.specs.PlanSchema.{sort_schema};
 ghost use Rattle.order_exec.specs.Inner.Spans.{HaveSpans, span};
 ghost use Rattle.order_exec.specs.Meant.{sort_meant};
 
+use crate::core_hulls::box_of_cores;
 use crate::number_keys::{in_number_order, keyed_cells};
 use crate::numbered_chunks::numbered_chunks;
 use area_cells::{array_of_parts, bounds_of, found_in};
@@ -64,7 +65,7 @@ fn grid_between(area: &Bounds) -> Option<Grid>
     }
 }
 
-/// The array sorted by one key, where the values of the key are numbers and the array's bounds have few places enough.
+/// The array sorted by one key, where the values of the key are numbers and the box of its chunks has few places enough.
 #[tactic(auto, using(array_geom::proofs::MarginLaws::overlap_each, array_geom::proofs::MarginLaws::overlap_places))]
 pub(crate) fn sorted_by_number(
     array: &ChunkedArray,
@@ -78,11 +79,13 @@ pub(crate) fn sorted_by_number(
     ensures array { IfOk result (λ made. IfSome made (λ sorted. Is sorted (sort_meant (key ∷ []) target.now (meant_by_cores array.now)))) }
     ensures margins { IfOk result (λ made. IfSome made (λ sorted. sorted.margins.items ≡ overlaps target.now.dimensions)) }
 {
-    let area = bounds_of(array.schema.dimensions.as_slice());
+    let chunks = array.chunks.as_slice();
+    let Some(area) = box_of_cores(&array.schema, chunks) else {
+        return Ok(None);
+    };
     let Some(grid) = grid_between(&area) else {
         return Ok(None);
     };
-    let chunks = array.chunks.as_slice();
     let found = found_in(&array.schema, &array.margins, chunks, &area, &grid)?;
     let Some(keyed) = keyed_cells(found.allocator(), found.as_slice(), key, &grid)? else {
         return Ok(None);
