@@ -18,7 +18,9 @@ pub mod TypedChanges
 pub mod TypedGroups
 pub mod TypedJoins
 pub mod TypedMoves
+pub mod TypedOrders
 pub mod TypedQueries
+pub mod TypedShapes
 mod WorkedLaws
 mod WorkedQueries
 mod WorkedStatements

@@ -9,6 +9,7 @@ use Rattle.afl_lexer.proofs.Words.{same_bytes}
 use Rattle.afl_trees.specs.Term.{Term, reference, version, call, group, Terms, no_terms, and_term}
 use Rattle.logical_plan.specs.Leaves.{leaves}
 use Rattle.logical_plan.specs.Query.{Query, joined, crossed, regridded, windowed, aggregated}
+use Rattle.logical_plan.specs.Query.{sorted, ranked, cumulated, transposed, unpacked, xgridded, merged, concatenated}
 use Rattle.logical_plan.specs.PlanSchema.{schema_of}
 use Rattle.logical_plan.specs.declared.parts.Leaf.{Leaf}
 use Rattle.logical_plan.specs.declared.names.NameEntry.{NameEntry}
@@ -28,8 +29,17 @@ use Rattle.afl_types.specs.declared.queries.call.Call.{Call}
 use Rattle.afl_types.specs.declared.queries.call.Call.TheVariants.{Build, Scan, Over, Two}
 use Rattle.afl_types.specs.declared.queries.call.OverSource.{OverSource}
 use Rattle.afl_types.specs.declared.queries.call.OverSource.TheVariants.{Filter, Apply, Project, Between, Subarray, Slice, Redimension, Regrid, Window, Aggregate}
+use Rattle.afl_types.specs.declared.queries.call.OverSource.TheVariants.{Sort, Rank, Cumulate, Transpose, Reverse, Unpack, Xgrid}
 use Rattle.afl_types.specs.declared.queries.call.OverTwo.{OverTwo}
-use Rattle.afl_types.specs.declared.queries.call.OverTwo.TheVariants.{Join, CrossJoin}
+use Rattle.afl_types.specs.declared.queries.call.OverTwo.TheVariants.{Join, CrossJoin, Merge, Concat}
+use Rattle.check_groups.specs.Cumulations.{cumulate_parts}
+use Rattle.check_shapes.specs.Pairs.{concat_rules, merge_rules}
+use Rattle.check_shapes.specs.Rank.{rank_parts}
+use Rattle.check_shapes.specs.Reverse.{reverse_rules}
+use Rattle.check_shapes.specs.Sort.{sort_parts}
+use Rattle.check_shapes.specs.Tables.{all_hold}
+use Rattle.check_shapes.specs.Unpack.{unpack_parts}
+use Rattle.check_shapes.specs.Xgrid.{xgrid_parts}
 use Rattle.check_groups.specs.Blocks.{regrid_parts}
 use Rattle.check_groups.specs.Groups.{aggregate_parts}
 use Rattle.check_groups.specs.Windows.{window_parts}
@@ -133,6 +143,18 @@ module _ (arrays : List NameEntry) where
       thens ReadsVersions (window_parts s (schema_of source) arguments) _ (λ p e. new_holds ReadsVersions s (windowed source p.reach p.aggregates) (λ within. reads))
   ruled_reads s Aggregate at source arguments reads =
       thens ReadsVersions (aggregate_parts s (schema_of source) arguments) _ (λ p e. new_holds ReadsVersions s (aggregated source p.aggregates p.places) (λ within. reads))
+  ruled_reads s Sort at source arguments reads =
+      thens ReadsVersions (sort_parts s (schema_of source) arguments) _ (λ p e. new_holds ReadsVersions s (sorted source p.keys p.schema) (λ within. reads))
+  ruled_reads s Rank at source arguments reads =
+      thens ReadsVersions (rank_parts s (schema_of source) arguments) _ (λ p e. new_holds ReadsVersions s (ranked source p.attribute p.dimensions) (λ within. reads))
+  ruled_reads s Cumulate at source arguments reads =
+      thens ReadsVersions (cumulate_parts s (schema_of source) arguments) _ (λ p e. new_holds ReadsVersions s (cumulated source p.aggregates p.dimension) (λ within. reads))
+  ruled_reads s Transpose at source arguments reads = new_holds ReadsVersions s (transposed source) (λ within. reads)
+  ruled_reads s Reverse at source arguments reads = thens ReadsVersions (all_hold (reverse_rules at (schema_of source))) _ (λ hold e. reads)
+  ruled_reads s Unpack at source arguments reads =
+      thens ReadsVersions (unpack_parts s (schema_of source) arguments) _ (λ schema e. new_holds ReadsVersions s (unpacked source schema) (λ within. reads))
+  ruled_reads s Xgrid at source arguments reads =
+      thens ReadsVersions (xgrid_parts s (schema_of source) arguments) _ (λ sizes e. new_holds ReadsVersions s (xgridded source sizes) (λ within. reads))
 
   both_read : (xs ys : List Leaf) → AllByRecursion (λ leaf. IsVersionOf leaf (entry_named arrays leaf.name)) xs → AllByRecursion (λ leaf. IsVersionOf leaf (entry_named arrays leaf.name)) ys
       → AllByRecursion (λ leaf. IsVersionOf leaf (entry_named arrays leaf.name)) (xs ++ ys)
@@ -145,6 +167,10 @@ module _ (arrays : List NameEntry) where
       thens ReadsVersions (joined_schema s (schema_of left) (schema_of right)) _ (λ schema e. new_holds ReadsVersions s (joined left right schema) (λ within. both_read (leaves left) (leaves right) l r))
   ruled_two_reads s CrossJoin at left right arguments l r =
       thens ReadsVersions (cross_parts s (schema_of left) (schema_of right) arguments) _ (λ p e. new_holds ReadsVersions s (crossed left right p.pairs p.schema) (λ within. both_read (leaves left) (leaves right) l r))
+  ruled_two_reads s Merge at left right arguments l r =
+      thens ReadsVersions (all_hold (merge_rules s (schema_of left) (schema_of right))) _ (λ hold e. new_holds ReadsVersions s (merged left right) (λ within. both_read (leaves left) (leaves right) l r))
+  ruled_two_reads s Concat at left right arguments l r =
+      thens ReadsVersions (all_hold (concat_rules s at (schema_of left) (schema_of right))) _ (λ hold e. new_holds ReadsVersions s (concatenated left right) (λ within. both_read (leaves left) (leaves right) l r))
 
   over_reads : (s : Span) (operator : OverSource) (source : Term) (arguments : Terms) → IfOk (query_of arrays source) ReadsVersions
       → IfOk (over s operator (content_span source) (query_of arrays source) (to_list arguments)) ReadsVersions

@@ -12,6 +12,7 @@ use Rattle.afl_trees.specs.Term.{Term, create, reference, version, call, group, 
 use Rattle.logical_plan.specs.Leaves.{leaves}
 use Rattle.logical_plan.specs.PlanSchema.{schema_of}
 use Rattle.logical_plan.specs.Query.{Query, joined, crossed, regridded, windowed, aggregated}
+use Rattle.logical_plan.specs.Query.{sorted, ranked, cumulated, transposed, unpacked, xgridded, merged, concatenated}
 use Rattle.logical_plan.specs.declared.names.NameEntry.{NameEntry}
 use Rattle.plan_changes.specs.Changes.{entry_named, is_named, has_array}
 use Rattle.plan_changes.specs.Allowed.{has_room}
@@ -29,6 +30,14 @@ use Rattle.check_sources.specs.Stored.{is_version, newest_of, at_version, versio
 use Rattle.check_sources.proofs.Holding.{build_holds}
 use Rattle.check_cellwise.proofs.CellsHolding.{filter_holds, apply_holds, project_holds}
 use Rattle.check_cellwise.proofs.BoxesHolding.{between_holds, subarray_holds, slice_holds}
+use Rattle.check_groups.specs.Cumulations.{cumulate_parts}
+use Rattle.check_shapes.specs.Pairs.{concat_rules, merge_rules}
+use Rattle.check_shapes.specs.Rank.{rank_parts}
+use Rattle.check_shapes.specs.Reverse.{reverse_rules}
+use Rattle.check_shapes.specs.Sort.{sort_parts}
+use Rattle.check_shapes.specs.Tables.{all_hold}
+use Rattle.check_shapes.specs.Unpack.{unpack_parts}
+use Rattle.check_shapes.specs.Xgrid.{xgrid_parts}
 use Rattle.check_groups.specs.Blocks.{regrid_parts}
 use Rattle.check_groups.specs.Groups.{aggregate_parts}
 use Rattle.check_groups.specs.Windows.{window_parts}
@@ -42,8 +51,9 @@ use Rattle.afl_types.specs.declared.queries.call.Call.{Call}
 use Rattle.afl_types.specs.declared.queries.call.Call.TheVariants.{Build, Scan, Over, Two}
 use Rattle.afl_types.specs.declared.queries.call.OverSource.{OverSource}
 use Rattle.afl_types.specs.declared.queries.call.OverSource.TheVariants.{Filter, Apply, Project, Between, Subarray, Slice, Redimension, Regrid, Window, Aggregate}
+use Rattle.afl_types.specs.declared.queries.call.OverSource.TheVariants.{Sort, Rank, Cumulate, Transpose, Reverse, Unpack, Xgrid}
 use Rattle.afl_types.specs.declared.queries.call.OverTwo.{OverTwo}
-use Rattle.afl_types.specs.declared.queries.call.OverTwo.TheVariants.{Join, CrossJoin}
+use Rattle.afl_types.specs.declared.queries.call.OverTwo.TheVariants.{Join, CrossJoin, Merge, Concat}
 use Rattle.afl_types.proofs.NoQuery.{nested_holds}
 use Rattle.afl_types.specs.Changes.{created, array_call, cut_at, cut_by, cut_call, cut_from, cut_of, list_call, store_target, insert_target, stored_schema, inserted_schema, known, stored_name}
 use Rattle.afl_types.specs.Place.{created_place}
@@ -81,6 +91,18 @@ module _ (names : List (List ℕ)) where
       thens (Reads names) (window_parts s (schema_of source) arguments) _ (λ p e. new_holds (Reads names) s (windowed source p.reach p.aggregates) (λ within. reads))
   ruled_reads s Aggregate at source arguments reads =
       thens (Reads names) (aggregate_parts s (schema_of source) arguments) _ (λ p e. new_holds (Reads names) s (aggregated source p.aggregates p.places) (λ within. reads))
+  ruled_reads s Sort at source arguments reads =
+      thens (Reads names) (sort_parts s (schema_of source) arguments) _ (λ p e. new_holds (Reads names) s (sorted source p.keys p.schema) (λ within. reads))
+  ruled_reads s Rank at source arguments reads =
+      thens (Reads names) (rank_parts s (schema_of source) arguments) _ (λ p e. new_holds (Reads names) s (ranked source p.attribute p.dimensions) (λ within. reads))
+  ruled_reads s Cumulate at source arguments reads =
+      thens (Reads names) (cumulate_parts s (schema_of source) arguments) _ (λ p e. new_holds (Reads names) s (cumulated source p.aggregates p.dimension) (λ within. reads))
+  ruled_reads s Transpose at source arguments reads = new_holds (Reads names) s (transposed source) (λ within. reads)
+  ruled_reads s Reverse at source arguments reads = thens (Reads names) (all_hold (reverse_rules at (schema_of source))) _ (λ hold e. reads)
+  ruled_reads s Unpack at source arguments reads =
+      thens (Reads names) (unpack_parts s (schema_of source) arguments) _ (λ schema e. new_holds (Reads names) s (unpacked source schema) (λ within. reads))
+  ruled_reads s Xgrid at source arguments reads =
+      thens (Reads names) (xgrid_parts s (schema_of source) arguments) _ (λ sizes e. new_holds (Reads names) s (xgridded source sizes) (λ within. reads))
 
 both_read : (left right : Query) (xs ys : List (List ℕ)) → Reads xs left → Reads ys right → map (λ leaf. leaf.name) (leaves left ++ leaves right) ≡ xs ++ ys
 both_read left right xs ys l r = map-append (λ leaf. leaf.name) (leaves left) (leaves right) ∙ ap (λ (ns : List (List ℕ)). ns ++ leaf_names right) l ∙ ap (λ (ns : List (List ℕ)). xs ++ ns) r
@@ -91,6 +113,10 @@ ruled_two_reads xs ys s Join at left right arguments l r =
     thens (Reads (xs ++ ys)) (joined_schema s (schema_of left) (schema_of right)) _ (λ schema e. new_holds (Reads (xs ++ ys)) s (joined left right schema) (λ within. both_read left right xs ys l r))
 ruled_two_reads xs ys s CrossJoin at left right arguments l r =
     thens (Reads (xs ++ ys)) (cross_parts s (schema_of left) (schema_of right) arguments) _ (λ p e. new_holds (Reads (xs ++ ys)) s (crossed left right p.pairs p.schema) (λ within. both_read left right xs ys l r))
+ruled_two_reads xs ys s Merge at left right arguments l r =
+    thens (Reads (xs ++ ys)) (all_hold (merge_rules s (schema_of left) (schema_of right))) _ (λ hold e. new_holds (Reads (xs ++ ys)) s (merged left right) (λ within. both_read left right xs ys l r))
+ruled_two_reads xs ys s Concat at left right arguments l r =
+    thens (Reads (xs ++ ys)) (all_hold (concat_rules s at (schema_of left) (schema_of right))) _ (λ hold e. new_holds (Reads (xs ++ ys)) s (concatenated left right) (λ within. both_read left right xs ys l r))
 
 module _ (arrays : List NameEntry) where
   named : (name : List ℕ) (entry : NameEntry) → entry_named arrays name ≡ Some entry → entry.name ≡ name

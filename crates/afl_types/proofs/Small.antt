@@ -11,6 +11,7 @@ use Rattle.schema_grammar.specs.declared.kinds.TypeKind.TheVariants.{WrongCount}
 use Rattle.afl_trees.specs.Term.{Term, call, group, Terms, no_terms, and_term}
 use Rattle.logical_plan.specs.PlanSchema.{schema_of}
 use Rattle.logical_plan.specs.Query.{Query, applied, projected, subarray, sliced, joined, crossed, regridded, windowed, aggregated}
+use Rattle.logical_plan.specs.Query.{sorted, ranked, cumulated, transposed, unpacked, xgridded, merged, concatenated}
 use Rattle.logical_plan.specs.declared.names.NameEntry.{NameEntry}
 use Rattle.check_rules.specs.Checked.{Answers, demand, then}
 use Rattle.check_rules.specs.Operators.{operator_named}
@@ -33,8 +34,17 @@ use Rattle.afl_types.specs.declared.queries.call.Call.{Call}
 use Rattle.afl_types.specs.declared.queries.call.Call.TheVariants.{Build, Scan, Over, Two}
 use Rattle.afl_types.specs.declared.queries.call.OverSource.{OverSource}
 use Rattle.afl_types.specs.declared.queries.call.OverSource.TheVariants.{Filter, Apply, Project, Between, Subarray, Slice, Redimension, Regrid, Window, Aggregate}
+use Rattle.afl_types.specs.declared.queries.call.OverSource.TheVariants.{Sort, Rank, Cumulate, Transpose, Reverse, Unpack, Xgrid}
 use Rattle.afl_types.specs.declared.queries.call.OverTwo.{OverTwo}
-use Rattle.afl_types.specs.declared.queries.call.OverTwo.TheVariants.{Join, CrossJoin}
+use Rattle.afl_types.specs.declared.queries.call.OverTwo.TheVariants.{Join, CrossJoin, Merge, Concat}
+use Rattle.check_groups.specs.Cumulations.{cumulate_parts}
+use Rattle.check_shapes.specs.Pairs.{concat_rules, merge_rules}
+use Rattle.check_shapes.specs.Rank.{rank_parts}
+use Rattle.check_shapes.specs.Reverse.{reverse_rules}
+use Rattle.check_shapes.specs.Sort.{sort_parts}
+use Rattle.check_shapes.specs.Tables.{all_hold}
+use Rattle.check_shapes.specs.Unpack.{unpack_parts}
+use Rattle.check_shapes.specs.Xgrid.{xgrid_parts}
 use Rattle.check_joins.specs.Blocks.{regrid_parts}
 use Rattle.check_joins.specs.Groups.{aggregate_parts}
 use Rattle.check_joins.specs.Windows.{window_parts}
@@ -104,6 +114,18 @@ module _ (arrays : List NameEntry) (valid : AreValid arrays) where
       thens HasSmallSchema (window_parts s (schema_of source) arguments) _ (λ p e. made_small s (windowed source p.reach p.aggregates))
   ruled_small s Aggregate at source arguments small =
       thens HasSmallSchema (aggregate_parts s (schema_of source) arguments) _ (λ p e. made_small s (aggregated source p.aggregates p.places))
+  ruled_small s Sort at source arguments small =
+      thens HasSmallSchema (sort_parts s (schema_of source) arguments) _ (λ p e. made_small s (sorted source p.keys p.schema))
+  ruled_small s Rank at source arguments small =
+      thens HasSmallSchema (rank_parts s (schema_of source) arguments) _ (λ p e. made_small s (ranked source p.attribute p.dimensions))
+  ruled_small s Cumulate at source arguments small =
+      thens HasSmallSchema (cumulate_parts s (schema_of source) arguments) _ (λ p e. made_small s (cumulated source p.aggregates p.dimension))
+  ruled_small s Transpose at source arguments small = made_small s (transposed source)
+  ruled_small s Reverse at source arguments small = thens HasSmallSchema (all_hold (reverse_rules at (schema_of source))) _ (λ hold e. small)
+  ruled_small s Unpack at source arguments small =
+      thens HasSmallSchema (unpack_parts s (schema_of source) arguments) _ (λ schema e. made_small s (unpacked source schema))
+  ruled_small s Xgrid at source arguments small =
+      thens HasSmallSchema (xgrid_parts s (schema_of source) arguments) _ (λ sizes e. made_small s (xgridded source sizes))
 
   ruled_two_small : (s : Span) (operator : OverTwo) (at : Span) (left right : Query) (arguments : List Term)
       → IfOk (ruled_two s operator at left right arguments) HasSmallSchema
@@ -111,6 +133,10 @@ module _ (arrays : List NameEntry) (valid : AreValid arrays) where
       thens HasSmallSchema (joined_schema s (schema_of left) (schema_of right)) _ (λ schema e. made_small s (joined left right schema))
   ruled_two_small s CrossJoin at left right arguments =
       thens HasSmallSchema (cross_parts s (schema_of left) (schema_of right) arguments) _ (λ p e. made_small s (crossed left right p.pairs p.schema))
+  ruled_two_small s Merge at left right arguments =
+      thens HasSmallSchema (all_hold (merge_rules s (schema_of left) (schema_of right))) _ (λ hold e. made_small s (merged left right))
+  ruled_two_small s Concat at left right arguments =
+      thens HasSmallSchema (all_hold (concat_rules s at (schema_of left) (schema_of right))) _ (λ hold e. made_small s (concatenated left right))
 
   over_small : (s : Span) (operator : OverSource) (arguments : Terms) (t : Term) → IfOk (query_of arrays t) HasSmallSchema
       → IfOk (demand (fits_count operator (length (to_list arguments))) s WrongCount (then (query_of arrays t)

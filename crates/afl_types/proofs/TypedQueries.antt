@@ -54,11 +54,14 @@ use Rattle.afl_types.specs.declared.queries.call.Call.{Call}
 use Rattle.afl_types.specs.declared.queries.call.Call.TheVariants.{Build, Scan, Over, Two}
 use Rattle.afl_types.specs.declared.queries.call.OverSource.{OverSource}
 use Rattle.afl_types.specs.declared.queries.call.OverSource.TheVariants.{Filter, Apply, Project, Between, Subarray, Slice, Redimension, Regrid, Window, Aggregate}
+use Rattle.afl_types.specs.declared.queries.call.OverSource.TheVariants.{Sort, Rank, Cumulate, Transpose, Reverse, Unpack, Xgrid}
 use Rattle.afl_types.specs.declared.queries.call.OverTwo.{OverTwo}
-use Rattle.afl_types.specs.declared.queries.call.OverTwo.TheVariants.{Join, CrossJoin}
+use Rattle.afl_types.specs.declared.queries.call.OverTwo.TheVariants.{Join, CrossJoin, Merge, Concat}
 use Rattle.afl_types.proofs.TypedGroups.{regrid_typed, window_typed, aggregate_typed}
 use Rattle.afl_types.proofs.TypedJoins.{join_typed, cross_typed}
 use Rattle.afl_types.proofs.TypedMoves.{redimension_typed}
+use Rattle.afl_types.proofs.TypedOrders.{sort_typed, rank_typed, cumulate_typed}
+use Rattle.afl_types.proofs.TypedShapes.{transpose_typed, reverse_typed, unpack_typed, xgrid_typed, merge_typed, concat_typed}
 use Rattle.afl_types.proofs.NoQuery.{nested_holds}
 use Rattle.afl_types.proofs.Small.{entry_valid}
 use Rattle.check_rules.proofs.Limits.{are_bytes}
@@ -210,11 +213,20 @@ ruled_typed s Redimension at source arguments leaves t = redimension_typed s sou
 ruled_typed s Regrid at source arguments leaves t = regrid_typed s source t arguments
 ruled_typed s Window at source arguments leaves t = window_typed s source t arguments
 ruled_typed s Aggregate at source arguments leaves t = aggregate_typed s source t arguments
+ruled_typed s Sort at source arguments leaves t = sort_typed s source t arguments
+ruled_typed s Rank at source arguments leaves t = rank_typed s source t arguments
+ruled_typed s Cumulate at source arguments leaves t = cumulate_typed s source t arguments
+ruled_typed s Transpose at source arguments leaves t = transpose_typed s source t
+ruled_typed s Reverse at source arguments leaves t = reverse_typed s source t at
+ruled_typed s Unpack at source arguments leaves t = unpack_typed s source t arguments
+ruled_typed s Xgrid at source arguments leaves t = xgrid_typed s source t arguments
 
 ruled_two_typed : (s : Span) (operator : OverTwo) (at : Span) (left right : Query) (arguments : List Term) → IsTyped left → IsTyped right
     → IfOk (ruled_two s operator at left right arguments) IsTyped
 ruled_two_typed s Join at left right arguments l r = join_typed s left right l r
 ruled_two_typed s CrossJoin at left right arguments l r = cross_typed s left right l r arguments
+ruled_two_typed s Merge at left right arguments l r = merge_typed s left right l r
+ruled_two_typed s Concat at left right arguments l r = concat_typed s left right l r at
 
 module _ (arrays : List NameEntry) (stored : AreValid arrays) where
   over_typed : (s : Span) (operator : OverSource) (arguments : Terms) (t : Term) → IsTrue (all_leaves_fit arguments) → IfOk (query_of arrays t) IsTyped

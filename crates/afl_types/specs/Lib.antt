@@ -10,7 +10,9 @@ pub mod Laws
 pub mod MovedCalls
 pub mod NamesLaws
 pub mod Nested
+pub mod OrderCalls
 pub mod Place
 pub mod Queries
 pub mod Said
+pub mod ShapeCalls
 pub mod Statements

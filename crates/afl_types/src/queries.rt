@@ -7,7 +7,9 @@ mod join_calls;
 mod made;
 mod moved_calls;
 mod nested;
+mod order_calls;
 mod query;
+mod shape_calls;
 mod shaped_calls;
 mod sources;
 

@@ -7,4 +7,4 @@ mod source;
 
 pub use apply::apply_call;
 pub use filter::filter_call;
-pub use project::project_call;
+pub use project::{attribute_places, project_call};

@@ -33,7 +33,7 @@ made_valid attributes gs dims some one distinct each within =
 
 -- blocks along a dimension
 
-in_limits : (z : ℤ) → negsuc (2 ^ 63 - 1) ≤ℤ z → z ≤ℤ pos (2 ^ 63 - 1) → saturate_signed w64 z ≡ z
+pub in_limits : (z : ℤ) → negsuc (2 ^ 63 - 1) ≤ℤ z → z ≤ℤ pos (2 ^ 63 - 1) → saturate_signed w64 z ≡ z
 in_limits (pos n) low high = let few : n ≤ 2 ^ 63 - 1 = omega (arith, ints) in let same : min n (2 ^ 63 - 1) ≡ n = omega arith in ap pos same
 in_limits (negsuc n) low high = let few : n ≤ 2 ^ 63 - 1 = omega (arith, ints) in let same : min n (2 ^ 63 - 1) ≡ n = omega arith in ap negsuc same
 
@@ -41,21 +41,21 @@ no_more : (n size : ℕ) → n / size ≤ n
 no_more n zero = grind arith
 no_more n (suc size) = grind arith
 
-int_at_most : (a b : ℤ) → int_le a b ≡ true → a ≤ℤ b
+pub int_at_most : (a b : ℤ) → int_le a b ≡ true → a ≤ℤ b
 int_at_most a b e = grind (arith, ints)
 
-at_most_int : (a b : ℤ) → a ≤ℤ b → int_le a b ≡ true
+pub at_most_int : (a b : ℤ) → a ≤ℤ b → int_le a b ≡ true
 at_most_int a b e = grind (arith, ints)
 
-not_below : (z : ℤ) → unsigned_abs z ≤ 4611686018427387903 → negsuc 4611686018427387902 ≤ℤ z
+pub not_below : (z : ℤ) → unsigned_abs z ≤ 4611686018427387903 → negsuc 4611686018427387902 ≤ℤ z
 not_below (pos n) h = omega (arith, ints)
 not_below (negsuc n) h = omega (arith, ints, h)
 
-not_above : (z : ℤ) → unsigned_abs z ≤ 4611686018427387903 → z ≤ℤ pos 4611686018427387903
+pub not_above : (z : ℤ) → unsigned_abs z ≤ 4611686018427387903 → z ≤ℤ pos 4611686018427387903
 not_above (pos n) h = omega (arith, ints, h)
 not_above (negsuc n) h = omega (arith, ints)
 
-bounded : (z : ℤ) → negsuc 4611686018427387902 ≤ℤ z → z ≤ℤ pos 4611686018427387903 → unsigned_abs z ≤ 4611686018427387903
+pub bounded : (z : ℤ) → negsuc 4611686018427387902 ≤ℤ z → z ≤ℤ pos 4611686018427387903 → unsigned_abs z ≤ 4611686018427387903
 bounded (pos n) l h = omega (arith, ints, l, h)
 bounded (negsuc n) l h = omega (arith, ints, l, h)
 

@@ -45,6 +45,18 @@ position_below p (x ∷ xs) i e = (position-Some p (x ∷ xs) i x e).0
 bare_fits : (d : Dimension) → is_dimension d ≡ true → is_dimension (without_overlap d) ≡ true
 bare_fits d e = let p = and_parts (bounds_in_range d && bounds_in_order d && has_chunk d) (overlap_fits d) e in and_from (bounds_in_range d && bounds_in_order d && has_chunk d) (overlap_fits (without_overlap d)) p.0 (le-leb 0 d.chunk (omega arith))
 
+-- a name is of a dimension that there is
+module _ (dims : List Dimension) where
+  place_below : (s : Span) (name : List ℕ) (done : List ℕ) (o : Option ℕ) → dimension_place dims name ≡ o → IfOk (new_place s done o) (λ p. nat_lt p (length dims) ≡ true)
+  place_below s name done None e = tt
+  place_below s name done (Some p) e =
+      demanded (λ place. nat_lt place (length dims) ≡ true) (not (list_any (λ other. other == p) done)) s RepeatedName _ (λ new.
+      lt-ltb p (length dims) (position_below (λ (d : Dimension). bytes_eq d.name name) dims p e))
+
+  pub one_below : (done : List ℕ) (t : Term) → IfOk (dimension_one dims done t) (λ p. nat_lt p (length dims) ≡ true)
+  one_below done (reference s name) = place_below s name done (dimension_place dims name) refl
+  one_below done t = tt
+
 module _ (dims : List Dimension) (apart : are_distinct (dimension_names dims) ≡ true) (all_fit : list_all is_dimension dims ≡ true) where
   abbrev bare : List ℕ → List Dimension
   bare places = map without_overlap (items_at places dims)

@@ -1,8 +1,8 @@
 -- What holds of the parts that checking answers: they fit the source, and the schema of the result is valid where it is within the limits.
 use Rattle.std.proofs.Common.{◌≡◌, ℕ, zero, suc, ◌+◌, ◌*◌, ◌≤◌, ◌==◌, ℤ, pos, negsuc, unsigned_abs, true, ◌&&◌, Option, Some, None, Ok, IfOk, List, [], ◌∷◌, ◌++◌, length, refl, ap, ◌∙◌, arith}
 use Rattle.std.specs.List.{AllByRecursion, list_all}
-use Rattle.std.specs.Prelude.{nat_le, int_le}
-use Rattle.std.proofs.lemmas.Bool.{and_parts, and_from, leb-true, le-leb, eqb-true, eq-eqb}
+use Rattle.std.specs.Prelude.{nat_le, nat_lt, int_le}
+use Rattle.std.proofs.lemmas.Bool.{and_parts, and_from, leb-true, le-leb, lt-ltb, eqb-true, eq-eqb}
 use Rattle.std.proofs.lemmas.List.Folds.{list_all-append}
 use Rattle.cell_values.specs.declared.name.Span.{Span}
 use Rattle.cell_values.specs.declared.schema.Schema.{Schema}
@@ -11,8 +11,8 @@ use Rattle.schema_grammar.specs.declared.kinds.TypeKind.TheVariants.{OutOfRange,
 use Rattle.afl_trees.specs.Term.{Term}
 use Rattle.afl_trees.specs.Grammar.{span_of}
 use Rattle.array_rows.specs.Boxes.{by_pairs}
-use Rattle.logical_plan.specs.PlanSchema.{aggregate_schema, group_dimensions, in_blocks, regrid_schema, window_schema}
-use Rattle.logical_plan.specs.Typing.{are_aggregates_of, are_below, are_blocks_of, are_windows_of, aggregate_names}
+use Rattle.logical_plan.specs.PlanSchema.{aggregate_schema, cumulate_schema, group_dimensions, in_blocks, regrid_schema, window_schema}
+use Rattle.logical_plan.specs.Typing.{are_aggregates_of, are_below, cumulates, are_blocks_of, are_windows_of, aggregate_names}
 use Rattle.logical_plan.specs.declared.parts.Aggregate.{Aggregate}
 use Rattle.logical_plan.specs.declared.parts.Reach.{Reach}
 use Rattle.check_rules.specs.Checked.{Checked}
@@ -28,14 +28,16 @@ use Rattle.check_groups.specs.AggregateSort.{front, behind, is_aggregate}
 use Rattle.check_groups.specs.Aggregates.{aggregate_one, aggregates_of}
 use Rattle.check_groups.proofs.Kept.{Kept, aggregates_kept}
 use Rattle.check_groups.specs.Blocks.{block_one, regrid_parts, with_blocks}
+use Rattle.check_groups.specs.Cumulations.{along, along_line, cumulate_parts, first_but_last_name}
 use Rattle.check_groups.specs.Groups.{aggregate_parts, with_places}
 use Rattle.check_groups.specs.Numbers.{at_least}
 use Rattle.check_groups.specs.Windows.{reach_one, window_parts, with_reach}
 use Rattle.check_groups.specs.declared.groups.aggregate.Groups.{Groups}
+use Rattle.check_groups.specs.declared.groups.cumulate.Cumulation.{Cumulation}
 use Rattle.check_groups.specs.declared.groups.regrid.Blocks.{Blocks}
 use Rattle.check_groups.specs.declared.groups.window.Windows.{Windows}
 use Rattle.check_groups.proofs.GroupSchemas.{made_valid, all_blocks_fit, block_names, block_count}
-use Rattle.check_groups.proofs.NamedPlaces.{Named, places_named}
+use Rattle.check_groups.proofs.NamedPlaces.{Named, one_below, places_named}
 
 nothing_asked : (ts : List Term) → AllByRecursion (λ t. Unit {0}) ts
 nothing_asked [] = tt
@@ -56,14 +58,14 @@ one_or_more : (s : Span) (o : Option ℤ) → IfOk (at_least (pos 1) s o) (λ n.
 one_or_more s (Some z) = demanded (λ (n : ℕ). nat_le 1 n ≡ true) (int_le (pos 1) z) s OutOfRange _ (λ e. at_least_one z e)
 one_or_more s None = tt
 
-abbrev AreSizes : List ℕ → Type 0
+abbrev pub AreSizes : List ℕ → Type 0
 AreSizes sizes = list_all (λ size. nat_le 1 size) sizes ≡ true
 
 if_ok : {A : Type 0} (r : Checked A) (P Q : A → Type 0) → ((a : A) → P a → Q a) → IfOk r P → IfOk r Q
 if_ok (Ok a) P Q f h = f a h
 if_ok r P Q f h = tt
 
-sizes_kept : (numbers : List Term) → IfOk (in_turn block_one [] numbers) AreSizes
+pub sizes_kept : (numbers : List Term) → IfOk (in_turn block_one [] numbers) AreSizes
 sizes_kept numbers =
     turns_keep (λ t. Unit {0}) AreSizes block_one
     (λ done t asked kept. if_ok (block_one done t) (λ n. nat_le 1 n ≡ true) (λ n. AreSizes (done ++ n ∷ []))
@@ -186,3 +188,33 @@ module _ (s : Span) (source : Schema) (is_valid : IsValid source) where
       thens GroupsFit (in_turn (dimension_one source.dimensions) [] names) _ (λ places e.
       with_groups aggregates places (leb-true 1 (length aggregates) c)
       (of_answer (Named source.dimensions alone parts.each) (in_turn (dimension_one source.dimensions) [] names) places (places_named source.dimensions alone parts.each names) e))))
+
+  -- lines
+
+  pub record CumulationFits (p : Cumulation) : Type 0 where
+    pub fit : cumulates source p.aggregates p.dimension ≡ true
+    pub valid : IsWithin (cumulate_schema p.aggregates source) → IsValid (cumulate_schema p.aggregates source)
+
+  line_below : (names : List Term) → IfOk (along source.dimensions names) (λ n. nat_lt n (length source.dimensions) ≡ true)
+  line_below [] = lt-ltb 0 (length source.dimensions) one
+  line_below (name ∷ names) = one_below source.dimensions [] name
+
+  with_line : (arguments : List Term) (n : ℕ) → 1 ≤ length arguments → nat_lt n (length source.dimensions) ≡ true → IfOk (along_line s source arguments n) CumulationFits
+  with_line arguments n some below =
+      let names = dimension_names source.dimensions in
+      thens CumulationFits (aggregates_of s source.attributes names arguments) _ (λ gs e.
+      let kept = gs_kept names arguments gs alone e in
+      record {
+        fit = and_from (are_aggregates_of source.attributes gs) (nat_lt n (length source.dimensions)) kept.fit below;
+        valid = λ within. made_valid source.attributes gs source.dimensions (gs_some names arguments gs some e) one kept.distinct parts.each within;
+      })
+
+  pub cumulate_fits : (arguments : List Term) → IfOk (cumulate_parts s source arguments) CumulationFits
+  cumulate_fits arguments =
+      let aggregates = front is_aggregate arguments in
+      let names = behind is_aggregate arguments in
+      unless_ok CumulationFits (first_but_last_name names) _
+      (demanded CumulationFits (nat_le 1 (length aggregates)) s WrongCount _ (λ c.
+      thens CumulationFits (along source.dimensions names) _ (λ n e.
+      with_line aggregates n (leb-true 1 (length aggregates) c)
+      (of_answer (λ n. nat_lt n (length source.dimensions) ≡ true) (along source.dimensions names) n (line_below names) e))))

@@ -129,7 +129,7 @@ suffix_free given name few = by_test (is_among (free_from (length given) 2 given
         let at_most = no_more (suffixes (length given) 2 name) given (suffixes_differ (length given) 2 name (omega (arith, few))) (all_taken (length given) 2 given name e) in
         absurd (omega (arith, at_most, suffix_count (length given) 2 name))
 
-name_free : (given : List (List ℕ)) (name : List ℕ) → length given < 2 ^ 32 → is_among (free_name given name) given ≡ false
+pub name_free : (given : List (List ℕ)) (name : List ℕ) → length given < 2 ^ 32 → is_among (free_name given name) given ≡ false
 name_free given name few = by_test (is_among name given) refl
   where
     by_test : (b : Bool) → is_among name given ≡ b → is_among (if b then free_from (length given) 2 given name else name) given ≡ false

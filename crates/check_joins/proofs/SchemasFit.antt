@@ -62,7 +62,7 @@ names_of_attributes [] (n ∷ names) e = absurd (omega (arith, e))
 names_of_attributes (a ∷ attributes) [] e = absurd (omega (arith, e))
 names_of_attributes (a ∷ attributes) (n ∷ names) e = ap (λ (ns : List (List ℕ)). n ∷ ns) (names_of_attributes attributes names (omega (arith, e)))
 
-pairs_count : {A B C : Type 0} (f : A → B → C) (xs : List A) (ys : List B) → length ys ≡ length xs → length (by_pairs f xs ys) ≡ length xs
+pub pairs_count : {A B C : Type 0} (f : A → B → C) (xs : List A) (ys : List B) → length ys ≡ length xs → length (by_pairs f xs ys) ≡ length xs
 pairs_count f [] ys e = refl
 pairs_count f (x ∷ xs) [] e = absurd (omega (arith, e))
 pairs_count f (x ∷ xs) (y ∷ ys) e = ap suc (pairs_count f xs ys (omega (arith, e)))
@@ -123,7 +123,7 @@ all_but p places n (d ∷ dims) e =
 
 -- places that are new
 
-position_below : {A : Type 0} (p : A → Bool) (xs : List A) (i : ℕ) → position p xs ≡ Some i → i < length xs
+pub position_below : {A : Type 0} (p : A → Bool) (xs : List A) (i : ℕ) → position p xs ≡ Some i → i < length xs
 position_below p [] i e = cc
 position_below p (x ∷ xs) i e = (position-Some p (x ∷ xs) i x e).0
 
@@ -133,7 +133,7 @@ differ_back m n e = ne_eqb n m (λ same. no (eq-eqb m n (sym same)))
     no : (m == n) ≡ true → ⊥
     no f = cc
 
-apart_more : (ps : List ℕ) (p : ℕ) → are_apart ps ≡ true → list_any (λ other. other == p) ps ≡ false → are_apart (ps ++ p ∷ []) ≡ true
+pub apart_more : (ps : List ℕ) (p : ℕ) → are_apart ps ≡ true → list_any (λ other. other == p) ps ≡ false → are_apart (ps ++ p ∷ []) ≡ true
 apart_more [] p a none = refl
 apart_more (n ∷ ps) p a none =
     let x = and_parts (not (list_any (λ m. m == n) ps)) (are_apart ps) a in

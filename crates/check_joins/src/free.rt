@@ -40,8 +40,10 @@ fn free_from(alloc: Global, span: Span, given: &[Name], name: &Name) -> Result<N
     named(span, suffixed(alloc, name, last)?)
 }
 
-/// A name as it is, unless it is already given.
-fn free_name(alloc: Global, span: Span, given: &[Name], name: &Name) -> Result<Name, TypeFault>
+/// A name as it is, unless it is already given: then with `_` and the least number from 2 that makes it a free one.
+///
+/// Fails where it is too long, at `span`.
+pub fn free_name(alloc: Global, span: Span, given: &[Name], name: &Name) -> Result<Name, TypeFault>
     ensures { Answers result (short_name span (free_name given.now name.now)) }
 {
     if is_given(given, name.as_slice()) {

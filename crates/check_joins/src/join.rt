@@ -19,7 +19,7 @@ fn has_bounds_of(left: &Dimension, right: &Dimension) -> bool
 }
 
 /// Whether the dimensions are as many and have the same bounds.
-fn same_bounds(left: &[Dimension], right: &[Dimension]) -> bool
+pub fn same_bounds(left: &[Dimension], right: &[Dimension]) -> bool
     ensures { result ≡ same_bounds left.now right.now }
 {
     match left {

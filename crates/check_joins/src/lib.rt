@@ -8,4 +8,5 @@ mod join;
 
 pub use check_groups::{Blocks, Groups, Windows, aggregate_parts, regrid_parts, window_parts};
 pub use cross::{Crossed, cross_parts};
-pub use join::join_schema;
+pub use free::free_name;
+pub use join::{join_schema, same_bounds};

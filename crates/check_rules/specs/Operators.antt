@@ -7,6 +7,8 @@ use Rattle.check_rules.specs.declared.rules.operator.Operator.TheVariants.{Build
 use Rattle.check_rules.specs.declared.rules.operator.Operator.TheVariants.{Subarray, Slice, Join, CrossJoin, Redimension}
 use Rattle.check_rules.specs.declared.rules.operator.Operator.TheVariants.{Regrid, Window, Aggregate, Store, Insert, Remove}
 use Rattle.check_rules.specs.declared.rules.operator.Operator.TheVariants.{RemoveVersions, Versions, Show, ListNames}
+use Rattle.check_rules.specs.declared.rules.operator.Operator.TheVariants.{Sort, Rank, Cumulate, Transpose, Reverse}
+use Rattle.check_rules.specs.declared.rules.operator.Operator.TheVariants.{Unpack, Xgrid, Merge, Concat}
 use Rattle.check_rules.specs.declared.rules.operator.Form.{Form}
 use Rattle.check_rules.specs.declared.rules.operator.Form.TheVariants.{Iif, One}
 use Rattle.check_rules.specs.declared.rules.operator.OneForm.TheVariants.{IsNull, StrLen, ToText, Missing, Reason}
@@ -21,6 +23,11 @@ query_named name =
     else if bytes_eq name (codes "join") then Some Join else if bytes_eq name (codes "cross_join") then Some CrossJoin
     else if bytes_eq name (codes "redimension") then Some Redimension else if bytes_eq name (codes "regrid") then Some Regrid
     else if bytes_eq name (codes "window") then Some Window else if bytes_eq name (codes "aggregate") then Some Aggregate
+    else if bytes_eq name (codes "sort") then Some Sort else if bytes_eq name (codes "rank") then Some Rank
+    else if bytes_eq name (codes "cumulate") then Some Cumulate else if bytes_eq name (codes "transpose") then Some Transpose
+    else if bytes_eq name (codes "reverse") then Some Reverse else if bytes_eq name (codes "unpack") then Some Unpack
+    else if bytes_eq name (codes "xgrid") then Some Xgrid else if bytes_eq name (codes "merge") then Some Merge
+    else if bytes_eq name (codes "concat") then Some Concat
     else None
 
 -- the operator of this name that changes arrays or lists something

@@ -5,6 +5,7 @@ ghost use Rattle.check_rules.specs.Checked.{Answers};
 ghost use Rattle.afl_types.specs.Calls.{are_pairs, call_of, fits_count, fits_two, ruled, ruled_two};
 
 use crate::queries::join_calls::{cross_call, join_call};
+use crate::queries::shape_calls::{concat_call, merge_call, reverse_call, transpose_call};
 use crate::queries::shaped_calls::OverSchema;
 use afl_trees::Tree;
 use cell_values::Span;
@@ -39,6 +40,13 @@ pub enum OverSource {
     Regrid,
     Window,
     Aggregate,
+    Sort,
+    Rank,
+    Cumulate,
+    Transpose,
+    Reverse,
+    Unpack,
+    Xgrid,
 }
 
 /// An operator on two sources.
@@ -46,6 +54,8 @@ pub enum OverSource {
 pub enum OverTwo {
     Join,
     CrossJoin,
+    Merge,
+    Concat,
 }
 
 pub(crate) fn call_of(operator: Option<Operator>) -> Option<Call>
@@ -64,8 +74,17 @@ pub(crate) fn call_of(operator: Option<Operator>) -> Option<Call>
         Some(Operator::Regrid) => Some(Call::Over(OverSource::Regrid)),
         Some(Operator::Window) => Some(Call::Over(OverSource::Window)),
         Some(Operator::Aggregate) => Some(Call::Over(OverSource::Aggregate)),
+        Some(Operator::Sort) => Some(Call::Over(OverSource::Sort)),
+        Some(Operator::Rank) => Some(Call::Over(OverSource::Rank)),
+        Some(Operator::Cumulate) => Some(Call::Over(OverSource::Cumulate)),
+        Some(Operator::Transpose) => Some(Call::Over(OverSource::Transpose)),
+        Some(Operator::Reverse) => Some(Call::Over(OverSource::Reverse)),
+        Some(Operator::Unpack) => Some(Call::Over(OverSource::Unpack)),
+        Some(Operator::Xgrid) => Some(Call::Over(OverSource::Xgrid)),
         Some(Operator::Join) => Some(Call::Two(OverTwo::Join)),
         Some(Operator::CrossJoin) => Some(Call::Two(OverTwo::CrossJoin)),
+        Some(Operator::Merge) => Some(Call::Two(OverTwo::Merge)),
+        Some(Operator::Concat) => Some(Call::Two(OverTwo::Concat)),
         _ => None,
     }
 }
@@ -82,14 +101,18 @@ impl OverSource {
         ensures { result ≡ fits_count self count }
     {
         match self {
-            OverSource::Filter => count == 1,
+            OverSource::Transpose | OverSource::Reverse => count == 0,
+            OverSource::Filter | OverSource::Unpack => count == 1,
             OverSource::Apply | OverSource::Slice => are_pairs(count),
-            OverSource::Project | OverSource::Redimension => 1 <= count,
+            OverSource::Project | OverSource::Redimension | OverSource::Sort | OverSource::Rank => 1
+                <= count,
             OverSource::Between
             | OverSource::Subarray
             | OverSource::Regrid
             | OverSource::Window
-            | OverSource::Aggregate => true,
+            | OverSource::Aggregate
+            | OverSource::Cumulate
+            | OverSource::Xgrid => true,
         }
     }
 
@@ -122,6 +145,15 @@ impl OverSource {
             OverSource::Aggregate => OverSchema::Aggregate.ruled(
                 alloc, text, span, source, arguments,
             ),
+            OverSource::Sort => OverSchema::Sort.ruled(alloc, text, span, source, arguments),
+            OverSource::Rank => OverSchema::Rank.ruled(alloc, text, span, source, arguments),
+            OverSource::Cumulate => OverSchema::Cumulate.ruled(
+                alloc, text, span, source, arguments,
+            ),
+            OverSource::Transpose => transpose_call(alloc, span, source),
+            OverSource::Reverse => reverse_call(alloc, at, source),
+            OverSource::Unpack => OverSchema::Unpack.ruled(alloc, text, span, source, arguments),
+            OverSource::Xgrid => OverSchema::Xgrid.ruled(alloc, text, span, source, arguments),
         }
     }
 }
@@ -132,7 +164,7 @@ impl OverTwo {
         ensures { result ≡ fits_two self count }
     {
         match self {
-            OverTwo::Join => count == 0,
+            OverTwo::Join | OverTwo::Merge | OverTwo::Concat => count == 0,
             OverTwo::CrossJoin => are_pairs(count),
         }
     }
@@ -154,6 +186,8 @@ impl OverTwo {
         match self {
             OverTwo::Join => join_call(alloc, span, left, right),
             OverTwo::CrossJoin => cross_call(alloc, span, left, right, arguments),
+            OverTwo::Merge => merge_call(alloc, span, left, right),
+            OverTwo::Concat => concat_call(alloc, span, at, left, right),
         }
     }
 }

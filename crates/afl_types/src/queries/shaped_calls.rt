@@ -6,6 +6,8 @@ ghost use Rattle.afl_types.specs.Inner.BySchema.{by_schema};
 
 use crate::queries::group_calls::{aggregate_call, regrid_call, window_call};
 use crate::queries::moved_calls::redimension_call;
+use crate::queries::order_calls::{cumulate_call, rank_call, sort_call};
+use crate::queries::shape_calls::{unpack_call, xgrid_call};
 use afl_trees::Tree;
 use cell_values::{Memory, Schema, Span};
 use check_rules::{TypeFault, shape_of};
@@ -19,6 +21,11 @@ pub(crate) enum OverSchema {
     Regrid,
     Window,
     Aggregate,
+    Sort,
+    Rank,
+    Cumulate,
+    Unpack,
+    Xgrid,
 }
 
 impl OverSchema {
@@ -43,6 +50,11 @@ impl OverSchema {
             OverSchema::Regrid => regrid_call(alloc, span, shape, source, arguments),
             OverSchema::Window => window_call(alloc, span, shape, source, arguments),
             OverSchema::Aggregate => aggregate_call(alloc, span, shape, source, arguments),
+            OverSchema::Sort => sort_call(alloc, span, shape, source, arguments),
+            OverSchema::Rank => rank_call(alloc, span, shape, source, arguments),
+            OverSchema::Cumulate => cumulate_call(alloc, span, shape, source, arguments),
+            OverSchema::Unpack => unpack_call(alloc, span, shape, source, arguments),
+            OverSchema::Xgrid => xgrid_call(alloc, span, shape, source, arguments),
         }
     }
 

@@ -43,9 +43,9 @@ fn projected_one(attributes: &[Attribute], done: &[u32], name: &Tree) -> Result<
     }
 }
 
-/// The places of the attributes that are named.
+/// The places of the attributes of these names, from 0, each of which is there and named once.
 #[tactic(auto, using(check_rules::proofs::Steps::ok_then, check_rules::proofs::Steps::err_then))]
-fn projected_all(
+pub fn attribute_places(
     alloc: Global,
     attributes: &[Attribute],
     names: &[Tree],
@@ -66,7 +66,7 @@ fn projected_by(alloc: Global, schema: &Schema, names: &[Tree]) -> Result<List<u
     requires { length schema.now.attributes ≤ 64 }
     ensures { Answers result (in_turn (projected_one schema.now.attributes) [] names.now) }
 {
-    projected_all(alloc, schema.attributes.as_slice(), names)
+    attribute_places(alloc, schema.attributes.as_slice(), names)
 }
 
 /// The places of the attributes of a plan that are named.

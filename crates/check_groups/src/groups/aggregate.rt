@@ -1,16 +1,14 @@
 //! `aggregate`.
-ghost use Rattle.std.specs.Prelude.{◌≡◌, ◌≤◌, ◌++◌, [], codes, length, map, slice_get, IfOk, OnOk};
+ghost use Rattle.std.specs.Prelude.{◌≡◌, ◌≤◌, ◌++◌, codes, length, map, slice_get, IfOk, OnOk};
 ghost use Rattle.std.specs.Option.{option_to_list};
 ghost use Rattle.cell_values.specs.Schemas.{dimension_names};
 ghost use Rattle.logical_plan.specs.BoxOps.{items_at};
 ghost use Rattle.logical_plan.specs.PlanSchema.{group_dimensions, without_overlap};
 ghost use Rattle.check_rules.specs.Checked.{Answers};
-ghost use Rattle.check_rules.specs.InTurn.{in_turn};
-ghost use Rattle.check_groups.specs.Names.{dimension_one};
 ghost use Rattle.check_groups.specs.Groups.{aggregate_parts, groups_of, with_places};
 
 use crate::aggregates::{aggregates_of, leading_aggregates};
-use crate::names::dimension_one;
+use crate::names::dimension_places;
 use afl_trees::Tree;
 use cell_values::{Dimension, List, Memory, Name, Schema, Span};
 use check_rules::{TypeFault, broken, first_but_names};
@@ -24,24 +22,6 @@ pub struct Groups {
     pub aggregates: List<Aggregate>,
     /// The places of the dimensions that are named, from 0.
     pub places: List<u32>,
-}
-
-/// The dimensions that names are.
-#[tactic(auto, using(check_rules::proofs::Steps::ok_then, check_rules::proofs::Steps::err_then))]
-fn places_of(
-    alloc: Global,
-    dimensions: &[Dimension],
-    names: &[Tree],
-) -> Result<List<u32>, TypeFault>
-    requires { length dimensions.now ≤ 6 }
-    ensures { Answers result (in_turn (dimension_one dimensions.now) [] names.now) }
-{
-    let mut places = List::new(alloc);
-    for name in names {
-        let place = dimension_one(dimensions, places.as_slice(), name)?;
-        places.push(place)?;
-    }
-    Ok(places)
 }
 
 /// The name of the one dimension of an aggregate of all cells.
@@ -132,7 +112,7 @@ fn groups_of(
     if aggregates.is_empty() {
         return Err(broken(span, TypeKind::WrongCount));
     }
-    let places = places_of(alloc, source.dimensions.as_slice(), names)?;
+    let places = dimension_places(alloc, source.dimensions.as_slice(), names)?;
     with_places(alloc, span, source, aggregates, places)
 }
 

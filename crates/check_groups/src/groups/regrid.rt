@@ -24,7 +24,7 @@ pub struct Blocks {
 
 /// The places of a block along each dimension.
 #[tactic(auto, using(check_rules::proofs::Steps::ok_then, check_rules::proofs::Steps::err_then))]
-fn sizes_of(alloc: Global, numbers: &[Tree]) -> Result<List<u64>, TypeFault>
+pub fn block_sizes(alloc: Global, numbers: &[Tree]) -> Result<List<u64>, TypeFault>
     ensures { Answers result (in_turn block_one [] numbers.now) }
 {
     let mut sizes = List::with_capacity(alloc, numbers.len())?;
@@ -69,7 +69,7 @@ fn blocks_of(
     if numbers.len() != source.dimensions.len() || aggregates.is_empty() {
         return Err(broken(span, TypeKind::WrongCount));
     }
-    let sizes = sizes_of(alloc, numbers)?;
+    let sizes = block_sizes(alloc, numbers)?;
     with_blocks(alloc, span, source, aggregates, sizes)
 }
 

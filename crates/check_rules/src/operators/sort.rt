@@ -81,6 +81,18 @@ pub fn first_but_names(arguments: &[Tree]) -> Option<Span>
     None
 }
 
+/// The place of the first argument that is no number.
+pub fn first_but_numbers(arguments: &[Tree]) -> Option<Span>
+    ensures { result ≡ first_but is_number arguments.now }
+{
+    for argument in arguments {
+        if !is_number(argument) {
+            return Some(argument.span);
+        }
+    }
+    None
+}
+
 /// The place of the first argument that is no bound.
 pub fn first_but_bounds(arguments: &[Tree]) -> Option<Span>
     ensures { result ≡ first_but is_bound arguments.now }

@@ -23,6 +23,15 @@ pub enum Operator {
     Regrid,
     Window,
     Aggregate,
+    Sort,
+    Rank,
+    Cumulate,
+    Transpose,
+    Reverse,
+    Unpack,
+    Xgrid,
+    Merge,
+    Concat,
     Store,
     Insert,
     Remove,
@@ -57,6 +66,15 @@ fn query_named(name: &[u8]) -> Option<Operator>
     ensures { result ≡ query_named name.now }
 {
     let found = None;
+    let found = if_spelled(name, b"concat", Operator::Concat, found);
+    let found = if_spelled(name, b"merge", Operator::Merge, found);
+    let found = if_spelled(name, b"xgrid", Operator::Xgrid, found);
+    let found = if_spelled(name, b"unpack", Operator::Unpack, found);
+    let found = if_spelled(name, b"reverse", Operator::Reverse, found);
+    let found = if_spelled(name, b"transpose", Operator::Transpose, found);
+    let found = if_spelled(name, b"cumulate", Operator::Cumulate, found);
+    let found = if_spelled(name, b"rank", Operator::Rank, found);
+    let found = if_spelled(name, b"sort", Operator::Sort, found);
     let found = if_spelled(name, b"aggregate", Operator::Aggregate, found);
     let found = if_spelled(name, b"window", Operator::Window, found);
     let found = if_spelled(name, b"regrid", Operator::Regrid, found);

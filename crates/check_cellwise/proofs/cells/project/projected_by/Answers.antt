@@ -6,4 +6,4 @@ use Rattle.check_cellwise.specs.Project.{projected_one}
 use Rattle.check_cellwise.proofs.cells.project.projected_by.Goals as goal
 
 pub returns : goal.returns
-returns c = subst (λ (attributes : List Attribute). Answers c.projected_all.result (in_turn (projected_one attributes) [] c.args.names.now)) c.as_slice.ensures c.projected_all.ensures
+returns c = subst (λ (attributes : List Attribute). Answers c.attribute_places.result (in_turn (projected_one attributes) [] c.args.names.now)) c.as_slice.ensures c.attribute_places.ensures
