@@ -1,11 +1,10 @@
 -- What `apply` adds: values of their kinds, under names that are new.
-use Rattle.std.proofs.Common.{◌≡◌, ℕ, Bool, true, false, not, ◌&&◌, ◌||◌, List, [], ◌∷◌, ◌++◌, length, map, Option, Some, None, Ok, IfOk, IsTrue, refl, sym, ap, subst, ◌∙◌, append_assoc}
-use Rattle.std.specs.List.{list_any, list_all, AllByRecursion}
+use Rattle.std.proofs.Common.{◌≡◌, ℕ, true, false, not, ◌&&◌, ◌||◌, List, [], ◌∷◌, ◌++◌, map, Option, Some, None, Ok, IfOk, IsTrue, refl, sym, ap, ◌∙◌, append_assoc}
+use Rattle.std.specs.List.{list_any}
 use Rattle.std.specs.Str.{bytes_eq}
-use Rattle.std.proofs.lemmas.Bool.{and_parts, and_from, or_parts, not-true}
+use Rattle.std.proofs.lemmas.Bool.{and_from, or_parts, not-true}
 use Rattle.std.proofs.lemmas.List.{map-append}
 use Rattle.std.proofs.lemmas.List.Folds.{list_all-append}
-use Rattle.cell_values.specs.declared.name.Span.{Span}
 use Rattle.cell_values.specs.declared.schema.Attribute.{Attribute}
 use Rattle.cell_values.specs.declared.schema.Dimension.{Dimension}
 use Rattle.cell_values.specs.declared.schema.Kind.{Kind}
@@ -14,7 +13,7 @@ use Rattle.cell_values.specs.Schemas.{attribute_names, dimension_names, names_of
 use Rattle.schema_grammar.specs.declared.kinds.TypeKind.TheVariants.{RepeatedName}
 use Rattle.afl_trees.specs.Term.{Term, reference}
 use Rattle.logical_plan.specs.PlanSchema.{derived, apply_schema}
-use Rattle.logical_plan.specs.Typing.{is_over, is_null_alone, fits_apply, kinds_of}
+use Rattle.logical_plan.specs.Typing.{is_over, is_null_alone, fits_apply}
 use Rattle.logical_plan.specs.declared.parts.Applied.{Applied}
 use Rattle.check_rules.proofs.RulesHolding.{demanded, thens}
 use Rattle.check_exprs.specs.Expressions.{fits, typed}

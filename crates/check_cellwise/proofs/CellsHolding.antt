@@ -17,7 +17,7 @@ use Rattle.check_exprs.specs.declared.operand.Operand.{Operand}
 use Rattle.check_rules.specs.InTurn.{in_turn, pairs_in_turn}
 use Rattle.check_rules.specs.Sorts.{is_expression, is_name, first_but, first_but_pairs}
 use Rattle.check_rules.proofs.OperatorsHolding.{IsWithin, unless_holds, new_holds}
-use Rattle.check_cellwise.specs.Filter.{filter_by, filter_of, filter_call}
+use Rattle.check_cellwise.specs.Filter.{filter_by, filter_call}
 use Rattle.check_cellwise.specs.Apply.{applied_one, apply_call}
 use Rattle.check_cellwise.specs.Project.{projected_one, project_call}
 

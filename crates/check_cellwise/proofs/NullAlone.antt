@@ -1,5 +1,5 @@
 -- An expression of a kind is no null alone.
-use Rattle.std.proofs.Common.{◌≡◌, ℕ, Bool, true, false, ◌&&◌, Option, Some, None, Ok, IfOk, List, refl, sym, ap, ◌∙◌}
+use Rattle.std.proofs.Common.{◌≡◌, ℕ, Bool, true, false, ◌&&◌, Option, Some, None, Ok, IfOk, List, refl, ap}
 use Rattle.cell_values.specs.declared.name.Span.{Span}
 use Rattle.cell_values.specs.declared.datum.CompareOp.{CompareOp}
 use Rattle.cell_values.specs.declared.datum.CompareOp.TheVariants as compare
@@ -22,7 +22,7 @@ use Rattle.check_rules.specs.declared.rules.operator.Form.{Form}
 use Rattle.check_rules.specs.declared.rules.operator.Form.TheVariants.{Iif, One}
 use Rattle.check_rules.specs.declared.rules.operator.OneForm.{OneForm}
 use Rattle.check_rules.specs.declared.rules.operator.OneForm.TheVariants.{IsNull, StrLen, ToText, Missing, Reason}
-use Rattle.check_exprs.specs.Expressions.{fits, fits_beside, is_ordered, sum_kind, common_kind, attribute_place, dimension_place, by_place, named, negated, denied, calculated, equated, ranked, conjoined, disjoined, combined, chosen, applied, bracketed, typed, typed_call}
+use Rattle.check_exprs.specs.Expressions.{fits, fits_beside, is_ordered, sum_kind, common_kind, attribute_place, dimension_place, by_place, negated, denied, calculated, equated, ranked, combined, chosen, applied, bracketed, typed, typed_call}
 use Rattle.check_exprs.specs.declared.operand.Operand.{Operand}
 
 abbrev Some_if : Operand → Type 0

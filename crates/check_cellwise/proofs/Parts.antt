@@ -1,19 +1,18 @@
 -- The schemas of parts and slices of an array are valid.
-use Rattle.std.proofs.Common.{◌≡◌, ℕ, suc, ◌+◌, ◌*◌, ◌≤◌, ◌<◌, ◌==◌, ℤ, pos, Bool, true, false, not, cond, ◌&&◌, ◌||◌, List, [], ◌∷◌, ◌++◌, length, map, drop, refl, sym, ap, ◌∙◌, arith}
-use Rattle.std.specs.Prelude.{nat_le, nat_lt}
+use Rattle.std.proofs.Common.{◌≡◌, ℕ, suc, ◌+◌, ◌≤◌, ◌==◌, ℤ, Bool, true, false, not, cond, ◌&&◌, List, [], ◌∷◌, ◌++◌, length, refl, ap, ◌∙◌, arith}
+use Rattle.std.specs.Prelude.{nat_le}
 use Rattle.std.specs.List.{list_any, list_all}
 use Rattle.std.specs.Str.{bytes_eq}
 use Rattle.std.proofs.lemmas.Bool.{and_parts, and_from, or_parts, not-true, leb-true}
-use Rattle.std.proofs.lemmas.List.{length-drop}
 use Rattle.cell_values.specs.declared.schema.Dimension.{Dimension}
 use Rattle.cell_values.specs.declared.schema.Schema.{Schema}
-use Rattle.cell_values.specs.Schemas.{IsValid, attribute_names, dimension_names, names_of, is_among, are_distinct, is_dimension, is_bound, bounds_in_range, bounds_in_order, has_chunk, overlap_fits}
+use Rattle.cell_values.specs.Schemas.{IsValid, attribute_names, dimension_names, is_among, are_distinct, is_dimension, bounds_in_range, bounds_in_order, has_chunk, overlap_fits}
 use Rattle.array_rows.specs.Boxes.{by_pairs}
 use Rattle.logical_plan.specs.BoxOps.{items_but}
 use Rattle.logical_plan.specs.PlanSchema.{from_zero, subarray_dimensions}
 use Rattle.check_rules.proofs.OperatorsHolding.{IsWithin}
 use Rattle.check_rules.proofs.Names.{distinct_behind, or_none}
-use Rattle.check_rules.proofs.ValidSchemas.{ValidParts, valid_parts, valid_of_parts, has_some}
+use Rattle.check_rules.proofs.ValidSchemas.{valid_parts, valid_of_parts, has_some}
 
 pub length_pairs : {A B C : Type 0} (f : A → B → C) (xs : List A) (ys : List B) → length xs ≤ length ys → length (by_pairs f xs ys) ≡ length xs
 length_pairs f [] ys h = refl

@@ -1,5 +1,5 @@
 -- An argument that breaks a rule ends the turn of the arguments.
-use Rattle.std.proofs.Common.{◌≡◌, ◌∙◌, ℕ, ◌+◌, ◌-◌, ◌<◌, ◌≤◌, Result, Ok, Err, List, [], ◌∷◌, ◌++◌, length, drop, get_or, slice_index_or, sym, subst, arith}
+use Rattle.std.proofs.Common.{◌≡◌, ◌∙◌, ℕ, ◌+◌, ◌<◌, ◌≤◌, Result, Ok, Err, List, [], ◌∷◌, ◌++◌, length, drop, get_or, slice_index_or, sym, subst, arith}
 use Rattle.std.specs.Result.{IsErrAnd}
 use Rattle.check_rules.specs.Checked.{Answers, Checked}
 use Rattle.check_rules.specs.InTurn.{in_turn, pairs_in_turn}

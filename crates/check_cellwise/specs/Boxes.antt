@@ -1,10 +1,9 @@
 -- `between` and `subarray` of a source and bounds: a low one for each dimension, then a high one for each.
-use Rattle.std.specs.Prelude.{ℕ, ◌*◌, ◌==◌, ℤ, length, drop, Ok, List, unwrap_or}
+use Rattle.std.specs.Prelude.{◌*◌, ◌==◌, ℤ, length, drop, Ok, List, unwrap_or}
 use Rattle.std.specs.List.{list_all}
 use Rattle.cell_values.specs.declared.name.Span.{Span}
 use Rattle.cell_values.specs.declared.schema.Bounds.{Bounds}
 use Rattle.cell_values.specs.declared.schema.Dimension.{Dimension}
-use Rattle.cell_values.specs.declared.schema.Schema.{Schema}
 use Rattle.cell_values.specs.Schemas.{bounds_in_order, bounds_in_range}
 use Rattle.schema_grammar.specs.declared.kinds.TypeKind.TheVariants.{WrongCount, EmptyBox, BoundsRange}
 use Rattle.afl_trees.specs.Term.{Term}

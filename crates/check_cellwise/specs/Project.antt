@@ -1,5 +1,5 @@
 -- `project` of a source and names of its attributes, each of which is there and named once.
-use Rattle.std.specs.Prelude.{ℕ, nat_le, length, Ok, List, []}
+use Rattle.std.specs.Prelude.{ℕ, nat_le, length, List, []}
 use Rattle.cell_values.specs.declared.name.Span.{Span}
 use Rattle.cell_values.specs.declared.schema.Attribute.{Attribute}
 use Rattle.schema_grammar.specs.declared.kinds.TypeKind.TheVariants.{WrongType, WrongCount}

@@ -7,7 +7,7 @@ use Rattle.cell_values.specs.declared.schema.Kind.TheVariants.{Int64, Str, Bool 
 use Rattle.schema_grammar.specs.declared.kinds.TypeKind.TheVariants.{NameTooLong, RepeatedName, UnknownName, WrongType}
 use Rattle.afl_trees.specs.Term.{Term, call, group, reference, star, renamed, no_terms, and_term}
 use Rattle.logical_plan.specs.declared.parts.AggFunction.{AggFunction}
-use Rattle.logical_plan.specs.declared.parts.AggFunction.TheVariants.{Sum, Count, CountAll, Min, Max}
+use Rattle.logical_plan.specs.declared.parts.AggFunction.TheVariants.{Sum, Count, CountAll, Max}
 use Rattle.logical_plan.specs.declared.parts.Aggregate.{Aggregate}
 use Rattle.check_rules.specs.Checked.{Checked, refused}
 use Rattle.check_groups.specs.AggregateSort.{is_aggregate, function_named, cells_function}

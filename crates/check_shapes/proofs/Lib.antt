@@ -1,6 +1,6 @@
 pub mod Among
 pub mod Arguments
-pub mod Bounds
+pub mod HighBounds
 pub mod Holding
 pub mod NumberedFit
 pub mod OrdersFit

@@ -19,9 +19,9 @@ use Rattle.logical_plan.specs.ShapeSchemas.{concat_schema, either_of, length_of,
 use Rattle.logical_plan.specs.Typing.{can_follow, concatenates, is_bounded, merges, same_bounds, same_kinds}
 use Rattle.check_rules.proofs.OperatorsHolding.{IsWithin}
 use Rattle.check_rules.proofs.ValidSchemas.{ValidParts, valid_parts, valid_of_parts}
-use Rattle.check_shapes.specs.Pairs.{can_end, concat_rules, ends_first, has_room_behind, merge_rules, same_rest}
+use Rattle.check_shapes.specs.Pairs.{fits_behind, concat_rules, ends_first, has_room_behind, merge_rules, same_rest}
 use Rattle.check_shapes.specs.Tables.{all_hold}
-use Rattle.check_shapes.proofs.Bounds.{high_fits, in_order}
+use Rattle.check_shapes.proofs.HighBounds.{high_fits, in_order}
 use Rattle.check_shapes.proofs.Holding.{first_holds}
 
 either_names : (left right : List Attribute) → same_kinds left right ≡ true → attribute_names (by_pairs either_of left right) ≡ attribute_names left
@@ -63,7 +63,7 @@ all_longer (l ∷ left) (r ∷ right) room all =
 follows : (left right : List Dimension) → ends_first left ≡ true → same_rest left right ≡ true → has_room_behind left right ≡ true → can_follow left right ≡ true
 follows [] right ends rest room = cc
 follows (l ∷ left) [] ends rest room = cc
-follows (l ∷ left) (r ∷ right) ends rest room = and_from (is_bounded l && can_end l r) (same_bounds left right) (and_from (is_bounded l) (can_end l r) ends room) rest
+follows (l ∷ left) (r ∷ right) ends rest room = and_from (is_bounded l && fits_behind l r) (same_bounds left right) (and_from (is_bounded l) (fits_behind l r) ends room) rest
 
 module _ (s : Span) (left right : Schema) (left_valid : IsValid left) where
   parts : ValidParts left

@@ -36,7 +36,7 @@ use Rattle.check_shapes.specs.Reverse.{reverse_rules}
 use Rattle.check_shapes.specs.Tables.{all_hold}
 use Rattle.check_shapes.specs.Unpack.{unpack_parts, unpack_under}
 use Rattle.check_shapes.specs.Xgrid.{bound_rules, has_room, with_sizes, xgrid_parts}
-use Rattle.check_shapes.proofs.Bounds.{high_fits}
+use Rattle.check_shapes.proofs.HighBounds.{high_fits}
 use Rattle.check_shapes.proofs.Holding.{first_holds}
 use Rattle.check_shapes.proofs.NumberedFit.{numbered_valid}
 

@@ -28,11 +28,11 @@ same_rest (l ∷ left) (r ∷ right) = same_bounds left right
 same_rest left right = false
 
 -- the new high bound is a bound
-abbrev pub can_end : Dimension → Dimension → Bool
-can_end l r = int_le (l.hi +ℤ pos (length_of r)) (pos greatest_bound)
+abbrev pub fits_behind : Dimension → Dimension → Bool
+fits_behind l r = int_le (l.hi +ℤ pos (length_of r)) (pos greatest_bound)
 
 abbrev pub has_room_behind : List Dimension → List Dimension → Bool
-has_room_behind (l ∷ left) (r ∷ right) = can_end l r
+has_room_behind (l ∷ left) (r ∷ right) = fits_behind l r
 has_room_behind left right = false
 
 -- the content of the left source stands at a place

@@ -1,6 +1,7 @@
 //! Checking `sort`, `rank`, `reverse`, `unpack`, `xgrid`, `merge` and `concat` of plans: the rules of their own.
 #![tactic(auto)]
 
+mod bounds;
 mod names;
 mod numbered;
 mod pairs;

@@ -3,11 +3,9 @@ ghost use Rattle.std.specs.Prelude.{◌≡◌, IfOk};
 ghost use Rattle.logical_plan.specs.ShapeSchemas.{counting};
 ghost use Rattle.check_shapes.specs.Numbered.{numbered_schema};
 
+use crate::bounds::GREATEST_BOUND;
 use cell_values::{Attribute, Dimension, List, Memory, Name, Schema};
 use std::alloc::Global;
-
-/// The greatest bound; a dimension with it has no end.
-const GREATEST_BOUND: i64 = 4611686018427387903;
 
 /// How many places a chunk of numbered cells has.
 const NUMBERED_CHUNK: u64 = 1000;

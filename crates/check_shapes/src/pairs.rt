@@ -1,24 +1,17 @@
 //! `merge` and `concat`.
-ghost use Rattle.std.specs.Prelude.{◌≡◌, ◌+ℤ◌, int_le, pos, drop};
-ghost use Rattle.std.specs.Int.{saturate_signed, w64};
-ghost use Rattle.cell_values.specs.Schemas.{greatest_bound};
-ghost use Rattle.expr_nulls.specs.Typing.{same_kind};
-ghost use Rattle.logical_plan.specs.ShapeSchemas.{length_of};
-ghost use Rattle.logical_plan.specs.Typing.{same_bounds, same_kinds};
+ghost use Rattle.std.specs.Prelude.{◌≡◌};
+ghost use Rattle.logical_plan.specs.Typing.{same_kinds};
 ghost use Rattle.check_rules.specs.Checked.{Answers};
-ghost use Rattle.check_shapes.specs.Pairs.{can_end, concat_rules, ends_first, has_room_behind, merge_rules, same_rest};
+ghost use Rattle.check_shapes.specs.Pairs.{concat_rules, ends_first, has_room_behind, merge_rules, same_rest};
 ghost use Rattle.check_shapes.specs.Tables.{all_hold};
 
-use crate::reverse::is_bounded;
+use crate::bounds::{fits_behind, is_bounded};
 use crate::rules::all_hold;
 use cell_values::{Attribute, Dimension, Schema, Span};
 use check_joins::same_bounds;
 use check_rules::TypeFault;
 use schema_grammar::TypeKind;
 use schema_grammar::rules::Rule;
-
-/// The greatest bound.
-const GREATEST_BOUND: i64 = 4611686018427387903;
 
 /// Whether the attributes are as many and of the same types.
 fn same_kinds(left: &[Attribute], right: &[Attribute]) -> bool
@@ -74,22 +67,6 @@ fn same_rest(left: &[Dimension], right: &[Dimension]) -> bool
     }
 }
 
-/// The high bound of a dimension behind which another one stands, or the greatest number where it is beyond.
-fn raised_high(left: &Dimension, right: &Dimension) -> i64
-    ensures { result ≡ saturate_signed w64 (left.now.hi +ℤ pos (length_of right.now)) }
-{
-    left.hi
-        .saturating_add_unsigned(right.hi.abs_diff(right.lo))
-        .saturating_add(1)
-}
-
-#[tactic(auto, using(crate::proofs::Room::same_room))]
-fn can_end(left: &Dimension, right: &Dimension) -> bool
-    ensures { result ≡ can_end left.now right.now }
-{
-    raised_high(left, right) <= GREATEST_BOUND
-}
-
 /// Whether the right's first dimension has room behind the left's.
 fn has_room_behind(left: &[Dimension], right: &[Dimension]) -> bool
     ensures { result ≡ has_room_behind left.now right.now }
@@ -98,7 +75,7 @@ fn has_room_behind(left: &[Dimension], right: &[Dimension]) -> bool
         [] => false,
         [l, ..] => match right {
             [] => false,
-            [r, ..] => can_end(l, r),
+            [r, ..] => fits_behind(l, r),
         },
     }
 }

@@ -1,26 +1,16 @@
 //! `reverse`.
 ghost use Rattle.std.specs.Prelude.{◌≡◌};
-ghost use Rattle.std.specs.List.{list_all};
-ghost use Rattle.logical_plan.specs.Typing.{are_bounded, is_bounded};
+ghost use Rattle.logical_plan.specs.Typing.{are_bounded};
 ghost use Rattle.check_rules.specs.Checked.{Answers};
 ghost use Rattle.check_shapes.specs.Reverse.{reverse_rules};
 ghost use Rattle.check_shapes.specs.Tables.{all_hold};
 
+use crate::bounds::is_bounded;
 use crate::rules::all_hold;
 use cell_values::{Dimension, Schema, Span};
 use check_rules::TypeFault;
 use schema_grammar::TypeKind;
 use schema_grammar::rules::Rule;
-
-/// The greatest bound; a dimension with it has no end.
-const GREATEST_BOUND: i64 = 4611686018427387903;
-
-/// Whether a dimension has an end.
-pub(crate) fn is_bounded(dimension: &Dimension) -> bool
-    ensures { result ≡ is_bounded dimension.now }
-{
-    dimension.hi != GREATEST_BOUND
-}
 
 fn are_bounded(dimensions: &[Dimension]) -> bool
     ensures { result ≡ are_bounded dimensions.now }

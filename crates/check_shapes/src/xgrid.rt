@@ -1,13 +1,11 @@
 //! `xgrid`.
-ghost use Rattle.std.specs.Prelude.{◌≡◌, ◌^◌, ◌-◌, ◌∷◌, [], int_le, min, nat_le, pos};
-ghost use Rattle.std.specs.Int.{saturate_signed, w64};
-ghost use Rattle.cell_values.specs.Schemas.{greatest_bound};
-ghost use Rattle.logical_plan.specs.Shapes.{last_place};
+ghost use Rattle.std.specs.Prelude.{◌≡◌, ◌^◌, ◌-◌, min, nat_le};
 ghost use Rattle.logical_plan.specs.Typing.{product_of};
 ghost use Rattle.check_rules.specs.Checked.{Answers};
 ghost use Rattle.check_shapes.specs.Tables.{all_hold};
-ghost use Rattle.check_shapes.specs.Xgrid.{bound_rules, has_room, with_sizes, xgrid_parts};
+ghost use Rattle.check_shapes.specs.Xgrid.{bound_rules, with_sizes, xgrid_parts};
 
+use crate::bounds::has_room;
 use crate::rules::all_hold;
 use afl_trees::Tree;
 use cell_values::{Dimension, List, Schema, Span};
@@ -17,30 +15,8 @@ use schema_grammar::TypeKind;
 use schema_grammar::rules::Rule;
 use std::alloc::Global;
 
-/// The greatest bound.
-const GREATEST_BOUND: i64 = 4611686018427387903;
-
 /// The most places of a block.
 const MAX_BLOCK: u64 = 65536;
-
-/// The last place of the last block, or the greatest number where it is beyond.
-#[tactic(auto, using(crate::proofs::Room::farther))]
-fn last_of_blocks(dimension: &Dimension, size: u64) -> i64
-    ensures { result ≡ saturate_signed w64 (last_place dimension.now size dimension.now.hi) }
-{
-    let before = dimension.hi.abs_diff(dimension.lo).saturating_mul(size);
-    dimension
-        .lo
-        .saturating_add_unsigned(before.saturating_add(size.saturating_sub(1)))
-}
-
-/// Whether the last place of the last block is a bound.
-#[tactic(auto, using(crate::proofs::Room::same_room))]
-fn has_room(dimension: &Dimension, size: u64) -> bool
-    ensures { result ≡ has_room dimension.now size }
-{
-    last_of_blocks(dimension, size) <= GREATEST_BOUND
-}
 
 /// The product of the numbers, or 2^64 - 1 where it is more.
 #[tactic(auto, using(crate::proofs::Room::product_on))]
