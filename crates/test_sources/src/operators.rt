@@ -3,8 +3,7 @@ ghost use Rattle.std.specs.Prelude.{◌≡◌, ◌∷◌, [], None, IfOk};
 ghost use Rattle.chunk_source.specs.Source.{Reads};
 ghost use Rattle.logical_plan.specs.Query.{reversed};
 ghost use Rattle.test_sources.specs.Example.{leaf};
-ghost use Rattle.test_sources.specs.Operators.{counting, front_of, input_of, plan_of, stored};
-ghost use Rattle.test_sources.specs.Operators.{sorted_schema, total, unpacked_schema};
+ghost use Rattle.test_sources.specs.Operators.{counting, front_of, input_of, plan_of, sorted_schema, stored, total, unpacked_schema};
 ghost use Rattle.test_sources.specs.declared.layout.Layout.TheVariants.{Pairs};
 
 use crate::changes::by_zero;
@@ -146,11 +145,18 @@ fn totals(alloc: Global) -> Result<List<Aggregate>, Memory>
     one_more(List::new(alloc), total)
 }
 
+/// A list of one number.
+fn one<T: Drop>(alloc: Global, number: T) -> Result<List<T>, Memory>
+    ensures { IfOk result (λ made. made ≡ number ∷ []) }
+{
+    one_more(List::new(alloc), number)
+}
+
 /// The array sorted.
 fn sort_of(alloc: Global, input: Input) -> Result<Plan, Memory>
     ensures { IfOk result (λ plan. plan ≡ plan_of Operator.Sort input) }
 {
-    let keys = one_more(List::new(alloc), 0u32)?;
+    let keys = one(alloc, 0u32)?;
     let schema = sorted_schema(alloc)?;
     Plan::sort(alloc, input_of(alloc, input)?, keys, schema)
 }
@@ -182,7 +188,7 @@ fn unpack_of(alloc: Global, input: Input) -> Result<Plan, Memory>
 fn xgrid_of(alloc: Global, input: Input) -> Result<Plan, Memory>
     ensures { IfOk result (λ plan. plan ≡ plan_of Operator.Xgrid input) }
 {
-    let sizes = one_more(List::new(alloc), 2u64)?;
+    let sizes = one(alloc, 2u64)?;
     Plan::xgrid(alloc, input_of(alloc, input)?, sizes)
 }
 
