@@ -1,4 +1,3 @@
 pub mod Executed
 pub mod Made
-pub mod Operated
 pub mod Stored

@@ -1,4 +1,5 @@
-//! What the last operator of a plan makes of arrays that may be broken: where one of them is, an array that the same cell breaks.
+//! What the last operator of a plan makes of arrays that may be broken: where one of them is, an
+//! array that the same cell breaks.
 ghost use Rattle.std.specs.Prelude.{◌≡◌, [], ◌∷◌, Err as Bad, IfOk};
 ghost use Rattle.cell_values.specs.Schemas.{IsValid};
 ghost use Rattle.array_geom.specs.Link.{Is};
@@ -46,7 +47,8 @@ pub(crate) fn unary_result<R: Threads + Sync, G: Gate>(
     }
 }
 
-/// The array of a plan of two sources, broken where one of them is. Of two broken ones the left one decides.
+/// The array of a plan of two sources, broken where one of them is. Of two broken ones the left one
+/// decides.
 #[tactic(auto, using(logical_plan::proofs::SchemaLaws::typed_valid))]
 pub(crate) fn binary_result<R: Threads + Sync, G: Gate>(
     crew: &mut Crew<'_, R, G>,
