@@ -1,10 +1,10 @@
 -- Chunks that are stored as they are.
-use Rattle.std.proofs.Common.{Option, ◌≡◌, ℕ, zero, suc, ◌⊎◌, ⊎_elim, ◌+◌, ◌<◌, ◌≤◌, ℤ, true, List, [], ◌∷◌, length, map, take, get_or, Some, None, Result, Ok, Err, refl, sym, ap, ◌∙◌, subst, arith, add-one, inl, inr}
+use Rattle.std.proofs.Common.{Bool, Option, ◌≡◌, ℕ, zero, suc, ◌⊎◌, ⊎_elim, ◌+◌, ◌<◌, ◌≤◌, ℤ, true, List, [], ◌∷◌, length, map, take, get_or, Some, None, Result, Ok, Err, refl, sym, ap, ◌∙◌, subst, arith, add-one, inl, inr, false, ◌&&◌}
 use Rattle.std.specs.Prelude.{IfOk, slice_index_or}
 use Rattle.std.specs.List.{AllByRecursion}
 use Rattle.std.specs.Option.{option_or}
 use Rattle.std.proofs.lemmas.Bool.{and_parts, and_from}
-use Rattle.std.proofs.lemmas.List.{take_all}
+use Rattle.std.proofs.lemmas.List.{take_all, length-map}
 use Rattle.cell_values.specs.declared.datum.Broken.{Broken}
 use Rattle.cell_values.specs.declared.datum.Cell.{Cell}
 use Rattle.cell_values.specs.declared.datum.Cell.TheVariants.{Full, Doubt}
@@ -24,10 +24,10 @@ use Rattle.array_geom.specs.declared.chunk.Changed.{Changed}
 use Rattle.array_geom.specs.declared.chunk.Chunk.{Chunk}
 use Rattle.array_geom.specs.declared.chunk.ChunkedArray.{ChunkedArray}
 use Rattle.array_geom.specs.Chunks.{IsChunk}
-use Rattle.array_geom.specs.Geometry.{HasFrame, coordinate_in, frame, frame_low, frame_lengths, overlaps, volume}
-use Rattle.array_geom.specs.Link.{HoldsResult, HoldsRows, Is, IsPart, chunk_rows, core_rows, rows_in}
+use Rattle.array_geom.specs.Geometry.{HasFrame, coordinate_in, frame, frame_low, frame_lengths, overlaps, volume, ChunkNumber, core}
+use Rattle.array_geom.specs.Link.{HoldsResult, HoldsRows, Is, IsPart, chunk_rows, core_rows, rows_in, has_cell, is_not_empty}
 use Rattle.array_geom.proofs.LawProofs.{coordinate_at_place}
-use Rattle.array_geom.proofs.LinkLaws.{chunks_have_their_rows}
+use Rattle.array_geom.proofs.LinkLaws.{chunks_have_their_rows, within-within}
 use Rattle.array_parts.specs.Cores.{HasCells, HaveCells, cores_of}
 use Rattle.array_parts.specs.Placed.{HasPlaces}
 use Rattle.array_parts.proofs.CoreLaws.{cores_are_rows}
@@ -44,10 +44,15 @@ use Rattle.plan_changes.specs.Databases.{Database, fitted, rows_of}
 use Rattle.plan_changes.specs.Kept.{MeansArray}
 use Rattle.plan_changes.specs.declared.change.Change.TheVariants.{Store}
 use Rattle.plan_changes.proofs.FitLaws.{fit_is, fitted_cell, fitted_row}
+use Rattle.array_geom.proofs.CoreLaws.{core_in_frame}
+use Rattle.array_rows.specs.Rows.{Coordinate, put_all}
+use Rattle.cell_values.specs.declared.schema.Dimension.{Dimension}
+use Rattle.chunk_cells.proofs.MergeLaws.{put_all-none}
+use Rattle.commit_pages.specs.Lengths.{meets}
 use Rattle.changed_chunks.specs.Changing.{IsAnswerOver}
 use Rattle.changed_chunks.specs.Inner.Input.{CanBeStored, IsFound, fitted_cores}
 use Rattle.changed_chunks.specs.Inner.Unchanged.{AreNumbers, AreNumbersAt, HaveNoFault, IsStorable, MayStandAt, MayStandFrom, IsStorableChunk}
-use Rattle.changed_chunks.specs.Inner.Writes.{IsStoreOf}
+use Rattle.changed_chunks.specs.Inner.Writes.{IsStoreOf, IsInsertOf}
 use Rattle.changed_chunks.proofs.ChunkLaws.{sound_cores, stored_chunks}
 use Rattle.changed_chunks.proofs.Rows.{found_there}
 use Rattle.changed_chunks.proofs.Told.{answers_store}
@@ -320,3 +325,34 @@ pub rows_told : {E : Type 0} (schema : Schema) (array : ChunkedArray) (found : R
     → IfOk made (λ m. (db : Database) (name : List ℕ) (plan : Query) → Is array (meaning (rows_of db) plan) → MeansArray db plan → IsAnswerOver db (Store name schema plan) m)
 rows_told schema array found (Ok made) is told = λ db name plan of means. told db name plan means (found_there db schema plan array found of is)
 rows_told schema array found (Err error) is told = tt
+
+-- ---- an insert over nothing
+
+met_of : (inner outer : Bounds) (rows : List Row) → ((c : Coordinate) → is_inside inner c ≡ true → is_inside outer c ≡ true) → is_not_empty (within inner rows) ≡ true → is_not_empty (within outer rows) ≡ true
+met_of inner outer rows lies some = by_rows (within outer rows) (within-within inner outer rows lies)
+  where
+    by_rows : (found : List Row) → within inner found ≡ within inner rows → is_not_empty found ≡ true
+    by_rows [] e = let none : false ≡ true = ap is_not_empty e ∙ some in absurd cc
+    by_rows (row ∷ found) e = refl
+
+-- a chunk whose core holds a row is met
+has_and_meets : (dims : List Dimension) (rows : List Row) (k : ChunkNumber) → has_cell dims rows k ≡ (has_cell dims rows k && meets dims rows k)
+has_and_meets dims rows k = by_test (has_cell dims rows k) refl
+  where
+    by_test : (b : Bool) → has_cell dims rows k ≡ b → b ≡ (b && meets dims rows k)
+    by_test false e = refl
+    by_test true e = sym (met_of (core dims k) (frame dims (overlaps dims) k) rows (λ c. core_in_frame dims (overlaps dims) k c (length-map dims (λ d. d.overlap))) e)
+
+pub over_none : (put : ChunkedArray) (changed : Changed) → CanBeStored put → changed ≡ record { schema = put.schema; whole = false; chunks = put.chunks } → IsInsertOf put.schema (cores_of put) [] changed
+over_none put changed can is =
+    let dims = put.schema.dimensions in
+    let rows = cores_of put in
+    let all = all_written put can in
+    let same : put_all rows [] ≡ rows = put_all-none rows can.holds.rows_of.are_rows.rising in
+    subst (IsInsertOf put.schema rows []) (sym is) (record {
+      is_of = (refl, refl);
+      valid = record { rising = all.valid.rising; stored = all.valid.stored };
+      rows_of = subst (AreRowsOf put.schema) (sym same) all.rows_of;
+      listed = λ k l. all.listed k l ∙ has_and_meets dims rows k ∙ ap (λ (rs : List Row). has_cell dims rs k && meets dims rows k) (sym same);
+      parts = subst (λ (rs : List Row). AllByRecursion (IsPart dims (overlaps dims) rs) put.chunks) (sym same) all.parts;
+    })

@@ -1,5 +1,5 @@
 //! Versions: the chunks of rows, and those that are written where rows are put over stored ones.
-ghost use Rattle.std.specs.Prelude.{◌≡◌, ◌++◌, List as Items, true, filter, IfOk};
+ghost use Rattle.std.specs.Prelude.{◌≡◌, ◌++◌, [], List as Items, true, filter, IfOk};
 ghost use Rattle.cell_values.specs.declared.datum.Row.{Row as Placed};
 ghost use Rattle.array_rows.specs.Boxes.{within};
 ghost use Rattle.array_rows.specs.Rows.{put_all};
@@ -130,12 +130,28 @@ fn touched(put: &ChunkedArray, version: ChunkedArray) -> Result<Changed, Memory>
     })
 }
 
+/// The chunks that are written where the rows of an array are put over none: all of its own.
+fn put_over_none(put: &ChunkedArray) -> Result<Changed, Memory>
+    requires { CanBeStored put.now }
+    ensures { IfOk result (IsInsertOf put.now.schema (cores_of put.now) []) }
+{
+    let chunks = put.chunks.copy()?;
+    Ok(Changed {
+        schema: put.schema.copy()?,
+        whole: false,
+        chunks,
+    })
+}
+
 /// The chunks that are written where the rows of an array are put over those of stored chunks.
 pub(crate) fn put_over(put: &ChunkedArray, old: List<Chunk>) -> Result<Changed, Memory>
     requires put { CanBeStored put.now }
     requires old { AreStoredChunks put.now.schema old }
     ensures { IfOk result (IsInsertOf put.now.schema (cores_of put.now) (stored_rows put.now.schema old)) }
 {
+    if old.is_empty() {
+        return put_over_none(put);
+    }
     let rows = rows_over(put, old)?;
     let version = stored_array(&put.schema, rows)?;
     touched(put, version)
