@@ -14,7 +14,7 @@ ghost use Rattle.order_exec.specs.Meant.{sort_meant};
 use crate::core_hulls::box_of_cores;
 use crate::number_keys::{in_number_order, keyed_cells};
 use crate::numbered_chunks::numbered_chunks;
-use area_cells::{array_of_parts, bounds_of, found_in};
+use area_cells::{array_of_parts, found_in};
 use array_geom::{ChunkedArray, Grid, Lengths, margins_of};
 use cell_values::{Bounds, List, Memory, Schema, copy_coord};
 
