@@ -1,6 +1,5 @@
 -- Plans of operators over the array, and over one with a cell in doubt.
-use Rattle.std.specs.Prelude.{ℕ, pos, true, false, List, [], ◌∷◌, codes}
-use Rattle.cell_values.specs.declared.schema.Attribute.{Attribute}
+use Rattle.std.specs.Prelude.{ℕ, pos, false, List, [], ◌∷◌, codes}
 use Rattle.cell_values.specs.declared.schema.Dimension.{Dimension}
 use Rattle.cell_values.specs.declared.schema.Kind.TheVariants.{Int64}
 use Rattle.cell_values.specs.declared.schema.Schema.{Schema}
