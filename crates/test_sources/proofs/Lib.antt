@@ -1,3 +1,4 @@
 pub mod Executed
 pub mod Made
+pub mod Operated
 pub mod Stored

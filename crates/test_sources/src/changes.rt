@@ -78,7 +78,7 @@ fn share(alloc: Global) -> Result<TypedExpr, Memory>
 }
 
 /// `filter(a, 1/(v-5)>0)`
-fn by_zero(alloc: Global, layout: Layout) -> Result<Plan, Memory>
+pub(crate) fn by_zero(alloc: Global, layout: Layout) -> Result<Plan, Memory>
     ensures { IfOk result (λ plan. plan ≡ by_zero layout) }
 {
     let leaf = example_leaf(alloc, layout)?;

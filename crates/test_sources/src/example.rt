@@ -20,7 +20,7 @@ use logical_plan::Leaf;
 use std::alloc::Global;
 use test_kit::{name_of, one_more};
 
-fn attributes(alloc: Global) -> Result<List<Attribute>, Memory>
+pub(crate) fn attributes(alloc: Global) -> Result<List<Attribute>, Memory>
     ensures { IfOk result (λ made. made ≡ attributes) }
 {
     let attribute = Attribute {

@@ -4,8 +4,10 @@
 //! `leaf` and `filter` read the array from a source in memory whose calls with these numbers, from 0, fail, or, behind
 //! `sure`, from one that never fails: alone in chunks of two places, and under a filter in chunks of one place, of two and of
 //! all. `store`, `insert`, `begin` and `fault` store an array, and put one into the array, into one without versions, and one
-//! with a fault into the array. They tell the chunks, and which chunks were asked for. `workers` shares eight pieces among so many
-//! workers, and holds the first piece until another has come.
+//! with a fault into the array. They tell the chunks, and which chunks were asked for. `operator` executes one of `sort`, `rank`,
+//! `cumulate`, `transpose`, `reverse`, `unpack`, `xgrid`, `merge` and `concat` over the array in chunks of two places, `doubtful`
+//! over a filter of it with one cell, which is in doubt. `workers` shares eight pieces among so many workers, and holds the first
+//! piece until another has come.
 #![tactic(auto)]
 
 ghost use Rattle.std.specs.Prelude.{◌≡◌, None};
@@ -16,6 +18,7 @@ mod changes;
 mod example;
 mod layout;
 mod leaves;
+mod operators;
 mod plans;
 mod show;
 mod workers;
@@ -26,6 +29,7 @@ use chunk_source::ChunkSource;
 use example::{failing_source, sure_source};
 use layout::{Layout, layout_of};
 use leaves::push_stored;
+use operators::{Input, operator_of, push_operator};
 use plans::push_filter;
 use show::push_asked;
 use std::thread::Threads;
@@ -80,6 +84,18 @@ fn push_sure<R: Threads + Sync>(rt: &R, out: &mut Transcript, word: &str, layout
     }
 }
 
+/// Executes an operator over the array, or over one with a cell in doubt.
+fn push_operated<R: Threads + Sync>(rt: &R, out: &mut Transcript, input: Input, word: &str) {
+    match failing_source(out.alloc(), Layout::Pairs, "") {
+        Ok(mut source) => {
+            push_operator(rt, out, &mut source, operator_of(word), input);
+            push_asked(out, source.asked());
+            drop(source);
+        }
+        Err(Memory) => out.note_short(),
+    }
+}
+
 /// The first word of a text, and what stands behind it.
 fn front_of(text: &str) -> (&str, &str) {
     text.split_once(' ').unwrap_or((text, ""))
@@ -91,6 +107,8 @@ fn push_answer<R: Threads + Sync>(rt: &R, out: &mut Transcript, line: &str) {
     match word {
         "workers" => push_workers(rt, out, behind),
         "leaf" => push_failing(rt, out, word, Layout::Pairs, behind),
+        "operator" => push_operated(rt, out, Input::Stored, behind),
+        "doubtful" => push_operated(rt, out, Input::Doubtful, behind),
         "sure" => {
             let (word, layout) = front_of(behind);
             push_sure(rt, out, word, layout_of(layout))

@@ -28,7 +28,7 @@ pub(crate) fn above_five(alloc: Global, layout: Layout) -> Result<Plan, Memory>
 }
 
 /// Executes a plan, and adds its chunks or why there are none, and how often the source has failed.
-fn push_plan<S: ChunkSource, R: Threads + Sync>(
+pub(crate) fn push_plan<S: ChunkSource, R: Threads + Sync>(
     rt: &R,
     out: &mut Transcript,
     source: &mut S,
