@@ -1,13 +1,13 @@
 //! Command lines that are run over files in memory.
 //!
 //! Behind `words: ` stand the words of a command line without a script; behind `init: ` a number of zero bytes, of the device that
-//! `init db` is run over; behind `fails: ` the number, from 0, of the call of an empty device that fails. A script behind `workers: ` is
-//! run over a new database with one worker and over another one with eight, and both replies are told; one behind `csv: ` over a new
-//! database, where arrays are told as CSV, and one behind `trace: ` over one where it is told what was read.
+//! `init db` is run over; behind `fails: ` the number, from 0, of the call of an empty device that fails. A script behind `run: ` is run
+//! over a new database; one behind `workers: ` over one with one worker and over another one with eight, and both replies are told; one
+//! behind `csv: ` over a new database, where arrays are told as CSV, and one behind `trace: ` over one where it is told what was read.
 
+use crate::capped::CappedShelf;
 use crate::files::{device_of, streams_of};
 use crate::runs::{new_shelf, push_run};
-use afl_outside::MemShelf;
 use cell_values::Memory;
 use std::sync::Wait;
 use std::thread::Threads;
@@ -18,6 +18,7 @@ use test_kit::Transcript;
 fn line_of<'a>(word: &str, text: &'a str) -> (&'a str, bool) {
     match word {
         "words" => (text, false),
+        "run" => ("run db -", true),
         "workers" => ("run db --workers 1 -", true),
         "csv" => ("run db --format csv+ -", true),
         "trace" => ("run db --trace -", true),
@@ -30,12 +31,12 @@ fn files_of<R: AllocGlobal + Threads + Wait + Clock + Sync>(
     rt: &R,
     word: &str,
     text: &str,
-) -> Result<MemShelf, Memory> {
+) -> Result<CappedShelf, Memory> {
     let number = text.parse::<u64>().unwrap_or(0);
     match word {
         "words" => streams_of(rt.alloc(), ""),
-        "init" => device_of(rt.alloc(), number as usize, None),
-        "fails" => device_of(rt.alloc(), 0, Some(number)),
+        "init" => device_of(rt.alloc(), number as usize, &[]),
+        "fails" => device_of(rt.alloc(), 0, &[number]),
         _ => new_shelf(rt, "-", text),
     }
 }

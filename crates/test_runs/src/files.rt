@@ -1,5 +1,6 @@
 //! Files in memory, and the scripts that texts stand for.
 
+use crate::capped::CappedShelf;
 use afl_outside::{MemFile, MemShelf};
 use cell_values::{Bytes, List, Memory};
 use std::alloc::Global;
@@ -32,12 +33,12 @@ fn script_of(alloc: Global, text: &str) -> Result<Bytes, Memory> {
     Ok(script)
 }
 
-/// Adds a file, whose call of this number fails.
+/// Adds a file, whose calls of these numbers fail.
 fn push_file(
     files: &mut List<MemFile>,
     name: &str,
     content: Bytes,
-    fails: Option<u64>,
+    fails: &[u64],
 ) -> Result<(), Memory> {
     let alloc = files.allocator();
     let mut file = MemFile {
@@ -46,30 +47,32 @@ fn push_file(
         fails: List::new(alloc),
     };
     let named = file.name.extend(name.as_bytes());
-    let failing = match fails {
-        Some(call) => file.fails.push(call),
-        None => Ok(()),
-    };
+    let failing = file.fails.extend(fails);
     named.and(failing).and(files.push(file))
 }
 
 /// A file alone in its list.
-fn one_file(name: &str, content: Bytes, fails: Option<u64>) -> Result<List<MemFile>, Memory> {
+fn one_file(name: &str, content: Bytes, fails: &[u64]) -> Result<List<MemFile>, Memory> {
     let mut files = content.another();
     push_file(&mut files, name, content, fails)?;
     Ok(files)
 }
 
-/// The standard streams over the script that a text stands for, of which the read and the write of these numbers fail.
+/// The standard streams over the script that a text stands for, of which the reads and the writes of these numbers fail. A write takes
+/// at most so many bytes.
 fn streams_over(
     alloc: Global,
     text: &str,
-    reads: Option<u64>,
-    writes: Option<u64>,
-) -> Result<MemShelf, Memory> {
+    reads: &[u64],
+    writes: &[u64],
+    most: usize,
+) -> Result<CappedShelf, Memory> {
     let scripts = one_file("-", script_of(alloc, text)?, reads)?;
     match one_file("-", Bytes::new(alloc), writes) {
-        Ok(replies) => Ok(MemShelf::new(scripts, replies, List::new(alloc))),
+        Ok(replies) => {
+            let shelf = MemShelf::new(scripts, replies, List::new(alloc));
+            Ok(CappedShelf::new(shelf, most))
+        }
         Err(Memory) => {
             drop(scripts);
             Err(Memory)
@@ -77,33 +80,44 @@ fn streams_over(
     }
 }
 
-/// The standard streams over the script that a line stands for. Behind `reads: ` the second read fails, and behind `writes: ` the second
-/// write.
-pub(crate) fn streams_of(alloc: Global, line: &str) -> Result<MemShelf, Memory> {
+/// How many bytes a write of a whole piece may take.
+const WHOLE: usize = usize::MAX;
+
+/// The standard streams over the script that a line stands for. Behind `reads: ` the second read fails, behind `writes: ` the second
+/// write; behind `bytes 9: ` each write takes one byte, and the one of that number fails, from 0.
+pub(crate) fn streams_of(alloc: Global, line: &str) -> Result<CappedShelf, Memory> {
     if let Some(text) = line.strip_prefix("reads: ") {
-        return streams_over(alloc, text, Some(1), None);
+        return streams_over(alloc, text, &[1], &[], WHOLE);
     }
-    match line.strip_prefix("writes: ") {
-        Some(text) => streams_over(alloc, text, None, Some(1)),
-        None => streams_over(alloc, line, None, None),
+    if let Some(text) = line.strip_prefix("writes: ") {
+        return streams_over(alloc, text, &[], &[1], WHOLE);
+    }
+    match line.strip_prefix("bytes ") {
+        Some(text) => {
+            let (number, text) = text.split_once(": ").unwrap_or((text, ""));
+            let number = number.parse::<u64>().unwrap_or(0);
+            streams_over(alloc, text, &[], &[number], 1)
+        }
+        None => streams_over(alloc, line, &[], &[], WHOLE),
     }
 }
 
-/// A device of the name `db` with so many zero bytes, whose call of this number fails.
+/// A device of the name `db` with so many zero bytes, whose calls of these numbers fail.
 pub(crate) fn device_of(
     alloc: Global,
     length: usize,
-    fails: Option<u64>,
-) -> Result<MemShelf, Memory> {
+    fails: &[u64],
+) -> Result<CappedShelf, Memory> {
     let zeros = List::from_vec(vec![in alloc; 0u8; length]?);
     let device = one_file("db", zeros, fails)?;
-    Ok(MemShelf::new(device, List::new(alloc), List::new(alloc)))
+    let shelf = MemShelf::new(device, List::new(alloc), List::new(alloc));
+    Ok(CappedShelf::new(shelf, WHOLE))
 }
 
 /// Adds the script of this name that a text stands for.
 fn push_script(files: &mut List<MemFile>, name: &str, text: &str) -> Result<(), Memory> {
     let script = script_of(files.allocator(), text.trim())?;
-    push_file(files, name, script, None)
+    push_file(files, name, script, &[])
 }
 
 /// Adds the scripts of these names that texts stand for.
@@ -114,15 +128,25 @@ fn push_scripts(files: &mut List<MemFile>, names: &[&str], texts: &[&str]) -> Re
     Ok(())
 }
 
+/// The device `db` with these bytes, whose calls of these numbers fail, and the scripts of these names that texts stand for.
+pub(crate) fn failing_shelf(
+    database: Bytes,
+    fails: &[u64],
+    names: &[&str],
+    texts: &[&str],
+) -> Result<CappedShelf, Memory> {
+    let mut files = one_file("db", database, fails)?;
+    push_scripts(&mut files, names, texts)?;
+    let replies = files.another();
+    let none = files.another();
+    Ok(CappedShelf::new(MemShelf::new(files, replies, none), WHOLE))
+}
+
 /// The device `db` with these bytes, and the scripts of these names that texts stand for.
 pub(crate) fn shelf_of(
     database: Bytes,
     names: &[&str],
     texts: &[&str],
-) -> Result<MemShelf, Memory> {
-    let mut files = one_file("db", database, None)?;
-    push_scripts(&mut files, names, texts)?;
-    let replies = files.another();
-    let fails = files.another();
-    Ok(MemShelf::new(files, replies, fails))
+) -> Result<CappedShelf, Memory> {
+    failing_shelf(database, &[], names, texts)
 }

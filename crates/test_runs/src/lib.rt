@@ -3,14 +3,18 @@
 //! In a table a line that begins with `##` is a title, and is printed as it is; each other line is printed behind `> `, above what comes of it.
 #![tactic(auto)]
 
+mod capped;
 mod commands;
+mod failing;
 mod files;
 mod order;
 mod runs;
 mod sessions;
+mod stops;
 mod told;
 
 use commands::push_command;
+use failing::push_failing;
 use files::streams_of;
 use runs::push_run;
 use sessions::push_sessions;
@@ -25,6 +29,7 @@ enum Table {
     Scripts,
     Commands,
     Sessions,
+    Failing,
 }
 
 /// The table below a title.
@@ -33,6 +38,7 @@ fn table_of(title: &str) -> Option<Table> {
         "scripts" => Some(Table::Scripts),
         "command lines" => Some(Table::Commands),
         "sessions side by side" => Some(Table::Sessions),
+        "calls that fail" => Some(Table::Failing),
         _ => None,
     }
 }
@@ -49,6 +55,7 @@ fn push_line<R: AllocGlobal + Threads + Wait + Clock + Sync>(
             Table::Scripts => push_run(rt, out, "try", streams_of(rt.alloc(), line), false),
             Table::Commands => push_command(rt, out, line),
             Table::Sessions => push_sessions(rt, out, line),
+            Table::Failing => push_failing(rt, out, line),
         }
     }
 }

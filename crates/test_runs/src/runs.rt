@@ -1,9 +1,9 @@
 //! Runs of a command line over files in memory.
 
+use crate::capped::CappedShelf;
 use crate::files::{device_of, shelf_of};
 use crate::order::Ordered;
 use crate::told::push_report;
-use afl_outside::MemShelf;
 use afl_run::{Arg, Report, let_go_report, run};
 use cell_values::{Bytes, Memory};
 use std::alloc::{AllocError, Global};
@@ -25,9 +25,9 @@ fn push_args(words: &mut Vec<Arg>, alloc: Global, line: &str) -> Result<(), Allo
 fn report_in_order<R: AllocGlobal + Threads + Wait + Clock + Sync>(
     rt: &R,
     words: &[Arg],
-    shelf: MemShelf,
+    shelf: CappedShelf,
     order: &str,
-) -> Result<(Report<MemShelf>, bool), Memory> {
+) -> Result<(Report<CappedShelf>, bool), Memory> {
     match Ordered::new(rt, rt.alloc(), order) {
         Ok(gate) => {
             let report = run(rt, rt.alloc(), words, shelf, &gate);
@@ -44,9 +44,9 @@ fn report_in_order<R: AllocGlobal + Threads + Wait + Clock + Sync>(
 pub(crate) fn report_of<R: AllocGlobal + Threads + Wait + Clock + Sync>(
     rt: &R,
     line: &str,
-    shelf: MemShelf,
+    shelf: CappedShelf,
     order: &str,
-) -> Result<(Report<MemShelf>, bool), Memory> {
+) -> Result<(Report<CappedShelf>, bool), Memory> {
     let mut words = Vec::new(rt.alloc());
     match push_args(&mut words, rt.alloc(), line) {
         Ok(()) => report_in_order(rt, words.as_slice(), shelf, order),
@@ -61,14 +61,14 @@ pub(crate) fn report_of<R: AllocGlobal + Threads + Wait + Clock + Sync>(
 pub(crate) fn report_over<R: AllocGlobal + Threads + Wait + Clock + Sync>(
     rt: &R,
     line: &str,
-    shelf: Result<MemShelf, Memory>,
-) -> Result<Report<MemShelf>, Memory> {
+    shelf: Result<CappedShelf, Memory>,
+) -> Result<Report<CappedShelf>, Memory> {
     let (report, _) = report_of(rt, line, shelf?, "")?;
     Ok(report)
 }
 
 /// The bytes of the device that a run has left.
-pub(crate) fn file_left(alloc: Global, report: &Report<MemShelf>) -> Result<Bytes, Memory> {
+pub(crate) fn file_left(alloc: Global, report: &Report<CappedShelf>) -> Result<Bytes, Memory> {
     match &report.disk {
         Some(disk) => disk_bytes(disk),
         None => Ok(Bytes::new(alloc)),
@@ -79,7 +79,7 @@ pub(crate) fn file_left(alloc: Global, report: &Report<MemShelf>) -> Result<Byte
 pub(crate) fn file_behind<R: AllocGlobal + Threads + Wait + Clock + Sync>(
     rt: &R,
     line: &str,
-    shelf: Result<MemShelf, Memory>,
+    shelf: Result<CappedShelf, Memory>,
 ) -> Result<Bytes, Memory> {
     let report = report_over(rt, line, shelf)?;
     let left = file_left(rt.alloc(), &report);
@@ -89,7 +89,7 @@ pub(crate) fn file_behind<R: AllocGlobal + Threads + Wait + Clock + Sync>(
 
 /// The file of a new database.
 fn new_file<R: AllocGlobal + Threads + Wait + Clock + Sync>(rt: &R) -> Result<Bytes, Memory> {
-    file_behind(rt, "init db", device_of(rt.alloc(), 0, None))
+    file_behind(rt, "init db", device_of(rt.alloc(), 0, &[]))
 }
 
 /// A new database, and the script of this name that a text stands for.
@@ -97,7 +97,7 @@ pub(crate) fn new_shelf<R: AllocGlobal + Threads + Wait + Clock + Sync>(
     rt: &R,
     name: &str,
     text: &str,
-) -> Result<MemShelf, Memory> {
+) -> Result<CappedShelf, Memory> {
     shelf_of(new_file(rt)?, &[name], &[text])
 }
 
@@ -106,7 +106,7 @@ pub(crate) fn push_run<R: AllocGlobal + Threads + Wait + Clock + Sync>(
     rt: &R,
     out: &mut Transcript,
     line: &str,
-    shelf: Result<MemShelf, Memory>,
+    shelf: Result<CappedShelf, Memory>,
     tells_device: bool,
 ) {
     match report_over(rt, line, shelf) {

@@ -9,10 +9,10 @@
 //! once all stops before it in the list are behind their sessions. A stop that is named twice is reached at the first place, and left at
 //! the second. Where a session is held too long all stops are let go; it is told where the order wasn't kept.
 
+use crate::capped::CappedShelf;
 use crate::files::shelf_of;
 use crate::runs::{file_behind, file_left, new_shelf, report_of, report_over};
 use crate::told::{end_words, push_bytes, push_notice};
-use afl_outside::MemShelf;
 use afl_run::{Report, let_go_report};
 use cell_values::{Bytes, Memory};
 use std::alloc::Global;
@@ -37,7 +37,7 @@ fn push_session(out: &mut Transcript, session: u64, end: &str, written: &[u8]) {
 }
 
 /// Adds what each session of a run has written, and how it ended.
-fn push_told(out: &mut Transcript, report: &Report<MemShelf>) {
+fn push_told(out: &mut Transcript, report: &Report<CappedShelf>) {
     let mut number = 0u64;
     for session in report.sessions.as_slice() {
         push_session(out, number, end_words(session.end).1, session.sink.bytes());
@@ -46,7 +46,7 @@ fn push_told(out: &mut Transcript, report: &Report<MemShelf>) {
 }
 
 /// Adds what a run has written, how it ended, and where it didn't keep its order.
-fn push_report(out: &mut Transcript, report: &Report<MemShelf>, is_kept: bool) {
+fn push_report(out: &mut Transcript, report: &Report<CappedShelf>, is_kept: bool) {
     push_told(out, report);
     push_numbered(out, "status ", u64::from(report.status), ", ");
     push_numbered(out, "", report.history.len() as u64, " entries, ");
@@ -62,12 +62,12 @@ fn report_after<R: AllocGlobal + Threads + Wait + Clock + Sync>(
     rt: &R,
     file: Result<Bytes, Memory>,
     script: &str,
-) -> Result<Report<MemShelf>, Memory> {
+) -> Result<Report<CappedShelf>, Memory> {
     report_over(rt, "run db 0", shelf_of(file?, &["0"], &[script]))
 }
 
 /// Adds what the first session of a run has written.
-fn push_first(out: &mut Transcript, report: &Report<MemShelf>) {
+fn push_first(out: &mut Transcript, report: &Report<CappedShelf>) {
     if let Some(session) = report.sessions.get(0) {
         push_bytes(out, session.sink.bytes());
     }
@@ -95,7 +95,7 @@ fn files_beside<R: AllocGlobal + Threads + Wait + Clock + Sync>(
     rt: &R,
     before: &str,
     scripts: &[&str],
-) -> Result<MemShelf, Memory> {
+) -> Result<CappedShelf, Memory> {
     shelf_of(file_before(rt, before)?, &["0", "1"], scripts)
 }
 
@@ -104,8 +104,8 @@ fn report_beside<R: AllocGlobal + Threads + Wait + Clock + Sync>(
     rt: &R,
     options: &str,
     order: &str,
-    files: Result<MemShelf, Memory>,
-) -> Result<(Report<MemShelf>, bool), Memory> {
+    files: Result<CappedShelf, Memory>,
+) -> Result<(Report<CappedShelf>, bool), Memory> {
     let shelf = files?;
     match format!(in rt.alloc(); "run db {options} 0 1") {
         Ok(line) => {
@@ -124,7 +124,7 @@ fn report_beside<R: AllocGlobal + Threads + Wait + Clock + Sync>(
 fn push_beside<R: AllocGlobal + Threads + Wait + Clock + Sync>(
     rt: &R,
     out: &mut Transcript,
-    made: Result<(Report<MemShelf>, bool), Memory>,
+    made: Result<(Report<CappedShelf>, bool), Memory>,
     after: &str,
 ) {
     match made {

@@ -1,6 +1,7 @@
 //! What is told of a run.
 
-use afl_outside::{MemDisk, MemShelf};
+use crate::capped::CappedShelf;
+use afl_outside::MemDisk;
 use afl_run::{Report, SessionEnd, notice_line};
 use cell_values::Memory;
 use std::str::from_utf8;
@@ -12,7 +13,7 @@ pub(crate) fn push_bytes(out: &mut Transcript, bytes: &[u8]) {
 }
 
 /// Adds the line with which a run ends.
-pub(crate) fn push_notice(out: &mut Transcript, report: &Report<MemShelf>) {
+pub(crate) fn push_notice(out: &mut Transcript, report: &Report<CappedShelf>) {
     match notice_line(out.alloc(), &report.notice) {
         Ok(line) => {
             push_bytes(out, line.as_slice());
@@ -39,7 +40,7 @@ fn push_session(out: &mut Transcript, text: &[u8], end: SessionEnd) {
 }
 
 /// Adds what the sessions have written, and how they ended.
-fn push_sessions(out: &mut Transcript, report: &Report<MemShelf>) {
+fn push_sessions(out: &mut Transcript, report: &Report<CappedShelf>) {
     for session in report.sessions.as_slice() {
         push_session(out, session.sink.bytes(), session.end);
     }
@@ -61,7 +62,7 @@ fn push_length(out: &mut Transcript, disk: &MemDisk) {
 
 /// Adds what the sessions have written, how they ended, how many bytes the device has that was opened, if that is wanted, and the status
 /// and line of the run.
-pub(crate) fn push_report(out: &mut Transcript, report: &Report<MemShelf>, tells_device: bool) {
+pub(crate) fn push_report(out: &mut Transcript, report: &Report<CappedShelf>, tells_device: bool) {
     push_sessions(out, report);
     match &report.disk {
         Some(disk) if tells_device => push_length(out, disk),

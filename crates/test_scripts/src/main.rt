@@ -1,4 +1,4 @@
-//! Prints what the program's top call makes of tables of scripts, of command lines and of sessions side by side.
+//! Prints what the program's top call makes of tables of scripts, of command lines, of sessions side by side and of calls that fail.
 //!
 //! Standard input has the tables, each behind `### ` and its title.
 #![tactic(auto)]
