@@ -12,7 +12,7 @@ ghost use Rattle.order_exec.specs.Meant.{cumulate_meant};
 use crate::line_starts::{Along, low_of};
 use crate::margins::with_margins;
 use crate::running_chunks::parts_by_chunk;
-use area_cells::{are_few, array_of_parts, broken_array, no_margins};
+use area_cells::{are_few, array_of_parts, no_margins};
 use array_geom::{ChunkedArray, margins_of};
 use cell_values::{Memory, Schema};
 use logical_plan::Aggregate;
@@ -62,13 +62,13 @@ fn of_whole(array: ChunkedArray, along: &Along<'_>, target: &Schema) -> Result<C
 
 /// The aggregates of the cells up to each cell on its line along a dimension: an array of the target, chunk after chunk. A cell in
 /// doubt stays one. What the array's margins hold doesn't matter.
-#[tactic(auto, using(array_geom::proofs::MarginLaws::overlap_each))]
 pub fn cumulate(
     array: ChunkedArray,
     aggs: &[Aggregate],
     dim: u32,
     target: &Schema,
 ) -> Result<ChunkedArray, Memory>
+    requires whole { array.broken ≡ None }
     requires cells { HasCells array }
     requires target { target.now ≡ cumulate_schema aggs.now array.schema }
     requires valid { IsValid target.now }
@@ -82,8 +82,5 @@ pub fn cumulate(
         low: low_of(array.schema.dimensions.as_slice(), place),
         aggs,
     };
-    match &array.broken {
-        Some(broken) => broken_array(target, &margins_of(target), broken),
-        None => of_whole(array, &along, target),
-    }
+    of_whole(array, &along, target)
 }

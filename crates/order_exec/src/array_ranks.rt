@@ -3,14 +3,14 @@ ghost use Rattle.std.specs.Prelude.{◌≡◌, ◌≤◌, None, length, IsTrue, 
 ghost use Rattle.cell_values.specs.Schemas.{IsValid};
 ghost use Rattle.array_geom.specs.Geometry.{overlaps};
 ghost use Rattle.array_geom.specs.Link.{Is};
-ghost use Rattle.array_parts.specs.Cores.{HasCells, HaveCells, meant_by_cores};
+ghost use Rattle.array_parts.specs.Cores.{HasCells, meant_by_cores};
 ghost use Rattle.logical_plan.specs.PlanSchema.{rank_schema};
 ghost use Rattle.logical_plan.specs.Typing.{ranks};
 ghost use Rattle.order_exec.specs.Inner.RankedRows.{AreRanked};
 ghost use Rattle.order_exec.specs.Meant.{rank_meant};
 
 use crate::ranked_rows::ranked_rows;
-use area_cells::{assemble, broken_array};
+use area_cells::assemble;
 use array_geom::{ChunkedArray, margins_of};
 use cell_values::{List, Memory, Row, Schema};
 use group_rows::rows_of_cores;
@@ -26,16 +26,17 @@ fn counted_ranks(attribute: u32, dims: &[u32], rows: &List<Row>) -> Result<List<
     ranked_rows(attribute, dims, rows)
 }
 
-/// The ranks in an array that is not broken.
+/// An attribute of an array and the rank of each of its values among those of the cells that agree in the named dimensions, all cells
+/// where none is named: an array of the target. A cell in doubt stays one. What the array's margins hold doesn't matter.
 #[tactic(auto, using(array_geom::proofs::MarginLaws::overlap_each, array_geom::proofs::MarginLaws::overlap_places))]
-fn of_whole(
+pub fn rank(
     array: ChunkedArray,
     attribute: u32,
     dims: &[u32],
     target: &Schema,
 ) -> Result<ChunkedArray, Memory>
     requires whole { array.broken ≡ None }
-    requires cells { HaveCells array.schema array.margins.items array.chunks }
+    requires cells { HasCells array }
     requires target { target.now ≡ rank_schema attribute array.schema }
     requires valid { IsValid target.now }
     requires ranks { IsTrue (ranks array.schema attribute dims.now) }
@@ -46,26 +47,4 @@ fn of_whole(
     let ranked = counted_ranks(attribute, dims, &rows)?;
     let margins = margins_of(target);
     assemble(target, &margins, ranked.as_slice())
-}
-
-/// An attribute of an array and the rank of each of its values among those of the cells that agree in the named dimensions, all cells
-/// where none is named: an array of the target. A cell in doubt stays one. What the array's margins hold doesn't matter.
-#[tactic(auto, using(array_geom::proofs::MarginLaws::overlap_each))]
-pub fn rank(
-    array: ChunkedArray,
-    attribute: u32,
-    dims: &[u32],
-    target: &Schema,
-) -> Result<ChunkedArray, Memory>
-    requires cells { HasCells array }
-    requires target { target.now ≡ rank_schema attribute array.schema }
-    requires valid { IsValid target.now }
-    requires ranks { IsTrue (ranks array.schema attribute dims.now) }
-    ensures array { IfOk result (λ made. Is made (rank_meant attribute dims.now (meant_by_cores array))) }
-    ensures margins { IfOk result (λ made. made.margins.items ≡ overlaps target.now.dimensions) }
-{
-    match &array.broken {
-        Some(broken) => broken_array(target, &margins_of(target), broken),
-        None => of_whole(array, attribute, dims, target),
-    }
 }

@@ -14,21 +14,31 @@ use area_cells::{assemble, broken_array};
 use array_geom::{ChunkedArray, margins_of};
 use cell_values::{List, Memory, Row, Schema};
 use group_rows::rows_of_cores;
+use std::thread::Threads;
 
 /// The rows sorted and numbered. More than there are numbers are as good as no memory.
-fn sorted_rows(keys: &[u32], rows: List<Row>) -> Result<List<Row>, Memory>
+fn sorted_rows(
+    rt: &(impl Threads + Sync),
+    keys: &[u32],
+    rows: List<Row>,
+) -> Result<List<Row>, Memory>
     ensures { IfOk result (AreSorted keys.now rows) }
 {
     if rows.len() >= 1 << 62 {
         return Err(Memory);
     }
     let cells = into_cells(rows)?;
-    numbered(in_key_order(keys, cells)?)
+    numbered(in_key_order(rt, keys, cells)?)
 }
 
 /// The cells of an array that is not broken in the order of their keys, from a list of all its rows.
 #[tactic(auto, using(array_geom::proofs::MarginLaws::overlap_each, array_geom::proofs::MarginLaws::overlap_places))]
-fn from_rows(array: ChunkedArray, keys: &[u32], target: &Schema) -> Result<ChunkedArray, Memory>
+fn from_rows(
+    rt: &(impl Threads + Sync),
+    array: ChunkedArray,
+    keys: &[u32],
+    target: &Schema,
+) -> Result<ChunkedArray, Memory>
     requires whole { array.broken ≡ None }
     requires cells { HaveCells array.schema array.margins.items array.chunks }
     requires target { target.now ≡ sort_schema array.schema }
@@ -41,42 +51,32 @@ fn from_rows(array: ChunkedArray, keys: &[u32], target: &Schema) -> Result<Chunk
     match first_unsortable(keys, rows.as_slice()) {
         Some(broken) => broken_array(target, &margins, &broken),
         None => {
-            let sorted = sorted_rows(keys, rows)?;
+            let sorted = sorted_rows(rt, keys, rows)?;
             assemble(target, &margins, sorted.as_slice())
         }
     }
 }
 
-/// The cells of an array that is not broken in the order of their keys.
-fn of_whole(array: ChunkedArray, keys: &[u32], target: &Schema) -> Result<ChunkedArray, Memory>
-    requires whole { array.broken ≡ None }
-    requires cells { HaveCells array.schema array.margins.items array.chunks }
-    requires target { target.now ≡ sort_schema array.schema }
-    requires valid { IsValid target.now }
-    ensures array { IfOk result (λ made. Is made (sort_meant keys.now target.now (meant_by_cores array))) }
-    ensures margins { IfOk result (λ made. made.margins.items ≡ overlaps target.now.dimensions) }
-{
-    if let [key] = keys {
-        if let Some(sorted) = sorted_by_number(&array, *key, target)? {
-            return Ok(sorted);
-        }
-    }
-    from_rows(array, keys, target)
-}
-
 /// The cells of an array numbered from 0 in the order of their keys, attributes named by their places: an array of the target. Cells
 /// with the same keys stay in row-major order. The first cell in doubt or with a faulty key breaks the array. What the array's
 /// margins hold doesn't matter.
-#[tactic(auto, using(array_geom::proofs::MarginLaws::overlap_each))]
-pub fn sort(array: ChunkedArray, keys: &[u32], target: &Schema) -> Result<ChunkedArray, Memory>
+pub fn sort(
+    rt: &(impl Threads + Sync),
+    array: ChunkedArray,
+    keys: &[u32],
+    target: &Schema,
+) -> Result<ChunkedArray, Memory>
+    requires whole { array.broken ≡ None }
     requires cells { HasCells array }
     requires target { target.now ≡ sort_schema array.schema }
     requires valid { IsValid target.now }
     ensures array { IfOk result (λ made. Is made (sort_meant keys.now target.now (meant_by_cores array))) }
     ensures margins { IfOk result (λ made. made.margins.items ≡ overlaps target.now.dimensions) }
 {
-    match &array.broken {
-        Some(broken) => broken_array(target, &margins_of(target), broken),
-        None => of_whole(array, keys, target),
+    if let [key] = keys {
+        if let Some(sorted) = sorted_by_number(rt, &array, *key, target)? {
+            return Ok(sorted);
+        }
     }
+    from_rows(rt, array, keys, target)
 }

@@ -17,6 +17,7 @@ use crate::numbered_chunks::numbered_chunks;
 use area_cells::{array_of_parts, found_in};
 use array_geom::{ChunkedArray, Grid, Lengths, margins_of};
 use cell_values::{Bounds, List, Memory, Schema, copy_coord};
+use std::thread::Threads;
 
 /// Adds how long a box is in each dimension, if it has at most so many places.
 fn push_spans(out: &mut Lengths, lo: &[i64], hi: &[i64], limit: u64) -> bool
@@ -68,6 +69,7 @@ fn grid_between(area: &Bounds) -> Option<Grid>
 /// The array sorted by one key, where the values of the key are numbers and the box of its chunks has few places enough.
 #[tactic(auto, using(array_geom::proofs::MarginLaws::overlap_each, array_geom::proofs::MarginLaws::overlap_places))]
 pub(crate) fn sorted_by_number(
+    rt: &(impl Threads + Sync),
     array: &ChunkedArray,
     key: u32,
     target: &Schema,
@@ -93,9 +95,16 @@ pub(crate) fn sorted_by_number(
     if keyed.len() >= 1 << 62 {
         return Err(Memory);
     }
-    let sorted = in_number_order(keyed)?;
+    let sorted = in_number_order(rt, keyed)?;
     let margins = margins_of(target);
-    let parts = numbered_chunks(target, &margins, found.as_slice(), sorted.as_slice(), &grid)?;
+    let parts = numbered_chunks(
+        target,
+        &margins,
+        found.as_slice(),
+        sorted.as_slice(),
+        array.schema.attributes.len() == 1,
+        &grid,
+    )?;
     let made = array_of_parts(target, &margins, parts)?;
     Ok(Some(made))
 }

@@ -1,5 +1,5 @@
 //! Chunks whose cells are numbered from 0.
-ghost use Rattle.std.specs.Prelude.{◌≡◌, ◌*◌, ◌<◌, ◌≤◌, ◌^◌, ◌++◌, ◌∷◌, [], List as Items, length, map, OnOk, IfOk};
+ghost use Rattle.std.specs.Prelude.{◌≡◌, ◌*◌, ◌<◌, ◌≤◌, ◌^◌, ◌++◌, ◌∷◌, [], List as Items, length, map, IsTrue, OnOk, IfOk};
 ghost use Rattle.std.specs.List.{AllByRecursion};
 ghost use Rattle.cell_values.specs.declared.schema.Attribute.{Attribute};
 ghost use Rattle.cell_values.specs.Schemas.{IsValid};
@@ -10,7 +10,7 @@ ghost use Rattle.array_parts.specs.Placed.{HavePlaces};
 ghost use Rattle.area_cells.specs.Found.{IsFound, found_cell};
 ghost use Rattle.logical_plan.specs.Ordered.{numbered};
 ghost use Rattle.logical_plan.specs.PlanSchema.{sort_dimension};
-ghost use Rattle.order_exec.specs.Inner.Keyed.{AreIndexed, keyed_cell};
+ghost use Rattle.order_exec.specs.Inner.Keyed.{AreIndexed, IsKeyAlone, keyed_cell};
 
 use crate::number_keys::Keyed;
 use area_cells::Found;
@@ -30,6 +30,25 @@ fn push_found(cells: &mut Cells, found: &Found<'_>, grid: &Grid) -> Result<(), M
     }
 }
 
+/// Adds the cell of a key. Where the cells have nothing but their keys, it is made of the key.
+fn push_keyed(
+    cells: &mut Cells,
+    found: &[Found<'_>],
+    keyed: &Keyed,
+    alone: bool,
+    grid: &Grid,
+) -> Result<(), Memory>
+    requires found { AllByRecursion (IsFound grid.now) found.now }
+    requires indexed { keyed.now.index < length found.now }
+    requires alone { IsTrue alone → IsKeyAlone (map found_cell found.now) keyed.now }
+    ensures { OnOk result (cells.new ≡ cells.old ++ keyed_cell (map found_cell found.now) keyed.now ∷ []) }
+{
+    if alone {
+        return cells.push_number(keyed.key);
+    }
+    push_found(cells, &found[keyed.index], grid)
+}
+
 /// The chunk of a target with this number, whose core these cells fill from its first place on.
 fn numbered_chunk(
     target: &Schema,
@@ -37,12 +56,14 @@ fn numbered_chunk(
     number: u64,
     found: &[Found<'_>],
     keyed: &[Keyed],
+    alone: bool,
     grid: &Grid,
 ) -> Result<Chunk, Memory>
     requires target { (attributes : Items Attribute) × (target.now.dimensions ≡ sort_dimension attributes ∷ []) }
     requires margins { margins.now.items ≡ 0 ∷ [] }
     requires found { AllByRecursion (IsFound grid.now) found.now }
     requires indexed { AreIndexed (length found.now) keyed.now }
+    requires alone { IsTrue alone → AllByRecursion (IsKeyAlone (map found_cell found.now)) keyed.now }
     requires few { length keyed.now ≤ 1000 }
     ensures at { IfOk result (λ chunk. chunk.at.items ≡ number ∷ []) }
     ensures placed { IfOk result (IsPlaced target.now.dimensions margins.now.items) }
@@ -51,12 +72,12 @@ fn numbered_chunk(
     let _ = margins;
     let mut at = ChunkAt::new();
     at.push(number);
-    let mut positions = target.dimensions.another();
+    let mut positions = List::with_capacity(target.dimensions.allocator(), keyed.len())?;
     let mut cells = Cells::new(target.dimensions.allocator());
     for place in 0..keyed.len() {
         let one = keyed[place];
         positions.push(place as u64)?;
-        push_found(&mut cells, &found[one.index], grid)?;
+        push_keyed(&mut cells, found, &one, alone, grid)?;
     }
     Ok(Chunk {
         at,
@@ -65,12 +86,13 @@ fn numbered_chunk(
     })
 }
 
-/// The chunks of a target whose cells are numbered from 0 in this order.
+/// The chunks of a target whose cells are numbered from 0 in this order. Cells that have nothing but their keys can be said to be so.
 pub(crate) fn numbered_chunks(
     target: &Schema,
     margins: &Margins,
     found: &[Found<'_>],
     keyed: &[Keyed],
+    alone: bool,
     grid: &Grid,
 ) -> Result<List<Chunk>, Memory>
     requires valid { IsValid target.now }
@@ -78,6 +100,7 @@ pub(crate) fn numbered_chunks(
     requires margins { margins.now.items ≡ 0 ∷ [] }
     requires found { AllByRecursion (IsFound grid.now) found.now }
     requires indexed { AreIndexed (length found.now) keyed.now }
+    requires alone { IsTrue alone → AllByRecursion (IsKeyAlone (map found_cell found.now)) keyed.now }
     requires few { length keyed.now < 2 ^ 62 }
     ensures places { IfOk result (HavePlaces target.now margins.now.items) }
     ensures parts { IfOk result (AreParts target.now.dimensions margins.now.items (numbered 0 (map (keyed_cell (map found_cell found.now)) keyed.now))) }
@@ -88,7 +111,8 @@ pub(crate) fn numbered_chunks(
     'cutting: while !rest.is_empty() {
         let count = rest.len().min(1000);
         let (some, others) = rest.split_at(count);
-        chunks.push(numbered_chunk(target, margins, number, found, some, grid)?)?;
+        let chunk = numbered_chunk(target, margins, number, found, some, alone, grid)?;
+        chunks.push(chunk)?;
         rest = others;
         number += 1;
     }

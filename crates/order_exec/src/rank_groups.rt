@@ -1,13 +1,10 @@
 //! The values and the faults of groups.
-ghost use Rattle.std.specs.Prelude.{◌≡◌, ◌≤◌, None, length, IfOk, OnOk};
-ghost use Rattle.std.specs.BTreeMap as tree;
-ghost use Rattle.std.specs.BTreeMap.{Updates};
+ghost use Rattle.std.specs.Prelude.{◌≡◌, ◌≤◌, ◌++◌, ◌∷◌, [], length, IfOk, OnOk};
 ghost use Rattle.cell_values.specs.declared.datum.Datum.TheVariants.{Null};
 ghost use Rattle.logical_plan.specs.BoxOps.{numbers_at};
 ghost use Rattle.logical_plan.specs.Groups.{fault_for};
 ghost use Rattle.logical_plan.specs.declared.parts.AggFunction.TheVariants.{Count};
-ghost use Rattle.group_rows.specs.Taken.{by_coordinate};
-ghost use Rattle.order_exec.specs.Inner.Ranked.{HoldsFaults, HoldsValues, TakesFault, TakesValue, values_or_none};
+ghost use Rattle.order_exec.specs.Inner.Ranked.{HoldsFaults, HoldsValues, TakesFault, TakesValue};
 
 use crate::keys::value_in;
 use array_rows::fault_of_value;
@@ -37,15 +34,19 @@ fn fault_in(attribute: u32, cell: &Cell) -> Option<FaultKind>
     }
 }
 
-/// Takes a group's values out.
-fn take_out(groups: &mut BTreeMap<Coord, List<Datum>>, alloc: Global, key: &Coord) -> List<Datum>
-    ensures value { result ≡ values_or_none (tree.get by_coordinate groups.old key.now) }
-    ensures updates { Updates by_coordinate groups.old groups.new key.now None }
+fn push_copy(values: &mut List<Datum>, value: &Datum) -> Result<(), Memory>
+    ensures { OnOk result (values.new ≡ values.old ++ value.now ∷ []) }
 {
-    match groups.remove(key) {
-        Some(values) => values,
-        None => List::new(alloc),
-    }
+    values.push(value.copy()?)?;
+    Ok(())
+}
+
+fn list_of_one(alloc: Global, value: &Datum) -> Result<List<Datum>, Memory>
+    ensures { IfOk result (λ values. values ≡ value.now ∷ []) }
+{
+    let mut values = List::new(alloc);
+    push_copy(&mut values, value)?;
+    Ok(values)
 }
 
 /// Puts the value of a row, if it is not null, behind those of its group.
@@ -65,10 +66,17 @@ fn take_value(
         return Ok(());
     }
     let key = key_at(dims, &row.at);
-    let mut values = take_out(groups, alloc, &key);
-    values.push(value.copy()?)?;
-    groups.insert(key, values)?;
-    Ok(())
+    match groups.get_mut(&key) {
+        Some(values) => {
+            push_copy(values, value)?;
+            Ok(())
+        }
+        None => {
+            let values = list_of_one(alloc, value)?;
+            groups.insert(key, values)?;
+            Ok(())
+        }
+    }
 }
 
 /// The values of each group's rows, in their order.

@@ -51,7 +51,7 @@ pub(crate) fn of_one<R: Threads + Sync, G: Gate>(
         UnaryNode::Aggregate(aggs, places) => {
             aggregate(crew, array, aggs.as_slice(), places.as_slice(), &target)
         }
-        UnaryNode::Sort(keys, schema) => sort(array, keys.as_slice(), schema),
+        UnaryNode::Sort(keys, schema) => sort(crew.rt, array, keys.as_slice(), schema),
         UnaryNode::Rank(place, dims) => rank(array, place, dims.as_slice(), &target),
         UnaryNode::Cumulate(aggs, dim) => cumulate(array, aggs.as_slice(), dim, &target),
         UnaryNode::Transpose => transpose(crew, array, &target),

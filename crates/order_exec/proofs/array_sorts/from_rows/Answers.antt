@@ -7,12 +7,12 @@ use Rattle.order_exec.proofs.SortedRowsLaws.{meant_sorted}
 use Rattle.order_exec.proofs.array_sorts.from_rows.Goals as goal
 
 pub assemble-requires-clause-rows : goal.assemble-requires-clause-rows
-assemble-requires-clause-rows c =
+assemble-requires-clause-rows g c =
     sorted_are_rows c.args.array.schema c.args.target.now c.args.keys.now c.in_ok-rows.rows c.as_slice-in-None.result.now (of_cores c.args.array c.in_ok-rows.rows c.in_ok-rows.ensures.rows c.requires.cells) c.requires.target c.requires.valid
     c.in_ok-sorted-in-None.ensures.few (c.as_slice-in-None.ensures ∙ c.in_ok-sorted-in-None.ensures.made_of)
 
 pub returns-in_ok-sorted-in-None-clause-array : goal.returns-in_ok-sorted-in-None-clause-array
-returns-in_ok-sorted-in-None-clause-array c =
+returns-in_ok-sorted-in-None-clause-array g c =
     let made = c.as_slice-in-None.ensures ∙ c.in_ok-sorted-in-None.ensures.made_of in
     let rows = c.in_ok-rows.rows in
     stands_for c.assemble.result _ _

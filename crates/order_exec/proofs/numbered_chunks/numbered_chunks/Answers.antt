@@ -2,7 +2,8 @@ use Rattle.std.proofs.Common.{◌≡◌, ◌<◌, map, length, rules, subst}
 use Rattle.std.proofs.lemmas.List.{nil_from_length}
 use Rattle.area_cells.specs.Found.{found_cell}
 use Rattle.group_rows.proofs.RowLemmas.{all_right}
-use Rattle.order_exec.specs.Inner.Keyed.{AreIndexed, keyed_cell}
+use Rattle.order_exec.specs.Inner.Keyed.{AreIndexed, IsKeyAlone, keyed_cell}
+use Rattle.std.specs.List.{AllByRecursion}
 use Rattle.order_exec.specs.declared.number_keys.Keyed.{Keyed}
 use Rattle.order_exec.proofs.NumberedChunkLaws.{all_parts, all_places, cut_at, cut_end, cut_length, one_more_chunk}
 use Rattle.order_exec.proofs.numbered_chunks.numbered_chunks.Goals as goal
@@ -16,10 +17,11 @@ cutting-preserved c =
     let cut = cut_at c.min-count.result rest some others c.split_at.ensures.front c.split_at.ensures.back in
     record {
       so_far = one_more_chunk c.requires.target.0 c.args.target.now c.args.margins.now.items c.requires.target.1 c.requires.margins c.requires.valid (keyed_cell (map found_cell c.args.found.now)) c.args.keyed.now c.requires.few
-          some rest others c.cutting.number c.in_ok-numbered_chunk.field-0 c.cutting.chunks c.push.new.self nonempty cut (cut_end c.min-count.result rest some others c.min-count.ensures c.split_at.ensures.front c.split_at.ensures.back)
-          (cut_length c.min-count.result rest some others c.min-count.ensures c.split_at.ensures.front) c.in_ok-numbered_chunk.ensures.at c.in_ok-numbered_chunk.ensures.placed c.in_ok-numbered_chunk.ensures.rows c.in_ok-push.ensures.ok
+          some rest others c.cutting.number c.in_ok-chunk.chunk c.cutting.chunks c.push.new.self nonempty cut (cut_end c.min-count.result rest some others c.min-count.ensures c.split_at.ensures.front c.split_at.ensures.back)
+          (cut_length c.min-count.result rest some others c.min-count.ensures c.split_at.ensures.front) c.in_ok-chunk.ensures.at c.in_ok-chunk.ensures.placed c.in_ok-chunk.ensures.rows c.in_ok-push.ensures.ok
           c.cutting.invariant.so_far;
       indexed = all_right (λ (one : Keyed). one.index < length c.args.found.now) some others (subst (AreIndexed (length c.args.found.now)) cut c.cutting.invariant.indexed);
+      alone = λ alone. all_right (IsKeyAlone (map found_cell c.args.found.now)) some others (subst (AllByRecursion (IsKeyAlone (map found_cell c.args.found.now))) cut (c.cutting.invariant.alone alone));
     }
 
 pub returns-clause-places : goal.returns-clause-places

@@ -6,7 +6,7 @@ use Rattle.std.specs.List.Sorted.{IsSortedBy, IsStableBy}
 use Rattle.order_exec.specs.Inner.Keyed.{key_first}
 use Rattle.order_exec.specs.declared.number_keys.Keyed.{Keyed}
 use Rattle.order_exec.proofs.SortLaws.{stable_sort}
-use Rattle.order_exec.proofs.number_keys.in_number_order.Goals as goal
+use Rattle.order_exec.proofs.number_keys.sorted_here.Goals as goal
 
 pub returns : goal.returns
 returns c =

@@ -7,7 +7,7 @@ use Rattle.cell_values.specs.declared.datum.Cell.{Cell}
 use Rattle.logical_plan.proofs.OrderLaws.{values_are_ordered}
 use Rattle.logical_plan.specs.Ordered.{comes_first, keys_of}
 use Rattle.order_exec.proofs.SortLaws.{stable_sort}
-use Rattle.order_exec.proofs.sorted_cells.in_key_order.Goals as goal
+use Rattle.order_exec.proofs.sorted_cells.sorted_here.Goals as goal
 
 pub returns : goal.returns
 returns c =
