@@ -1,10 +1,12 @@
 pub mod AppliedLaws
 pub mod BuiltRows
 pub mod ChunkLaws
+pub mod ComputedLaws
 pub mod CoreCells
 pub mod CutLaws
 pub mod NumberLists
 pub mod Picking
+pub mod PlaceSteps
 pub mod QuickLaws
 pub mod RowLaws
 pub mod RunLaws

@@ -1,7 +1,9 @@
 //! Chunks through the operators that go cell by cell: filter, apply and project.
 
 mod applying;
+mod computing;
 mod filtering;
+mod places;
 mod projecting;
 
 pub use applying::apply_chunk;

@@ -1,15 +1,20 @@
 //! The values of further expressions.
-ghost use Rattle.std.specs.Prelude.{◌≡◌, ◌≤◌, ◌++◌, List as Items, length, map, take, OnOk, IfOk};
+ghost use Rattle.std.specs.Prelude.{◌≡◌, ◌≤◌, ◌++◌, ◌<◌, List as Items, length, map, take, OnOk, IfOk, IfSome};
+ghost use Rattle.std.specs.List.{AllByRecursion};
+ghost use Rattle.array_rows.specs.Boxes.{by_pairs};
 ghost use Rattle.cell_values.specs.declared.datum.Row.{Row};
-ghost use Rattle.array_geom.specs.Geometry.{HasFrame};
+ghost use Rattle.array_geom.specs.Geometry.{HasFrame, volume};
+ghost use Rattle.array_geom.specs.Inner.Ranges.{IsGrid};
 ghost use Rattle.array_geom.specs.Link.{IsPart};
 ghost use Rattle.expr_nulls.specs.ExprValue.{value_of};
 ghost use Rattle.logical_plan.specs.CellOps.{apply_cell, apply_rows};
 ghost use Rattle.array_parts.specs.Made.{IsPlaced, IsMadeBy};
+ghost use Rattle.exec_cellwise.specs.Inner.Computed.{applied_at};
 
-use array_geom::Chunk;
+use crate::chunks::computing::applied_rows;
+use array_geom::{Chunk, Grid, grid_of};
 use array_parts::{CellChange, Quick, change_chunk};
-use array_rows::Rows;
+use array_rows::{Cells, Form, Rows};
 use cell_values::{Cell, Coord, Datum, List, Margins, Memory, Schema};
 use expr_nulls::{TypedExpr, eval};
 use logical_plan::Applied;
@@ -62,6 +67,41 @@ impl CellChange for Apply<'_> {
     }
 }
 
+/// The cells of a chunk that are kept as rows, with the applied values after their own.
+fn applied_cells(grid: &Grid, chunk: &Chunk, values: &[Applied]) -> Result<Option<Cells>, Memory>
+    requires grid { IsGrid grid.now }
+    requires inside { AllByRecursion (λ p. p < volume grid.now.lengths.items) chunk.now.positions }
+    requires each { length chunk.now.cells ≡ length chunk.now.positions }
+    ensures { IfOk result (λ made. IfSome made (λ cells. cells ≡ by_pairs (applied_at grid.now.low.items grid.now.lengths.items values.now) chunk.now.positions chunk.now.cells)) }
+{
+    let places = chunk.positions.as_slice();
+    match chunk.cells.form() {
+        Form::Even(rows) => {
+            let alloc = chunk.positions.allocator();
+            Ok(Some(applied_rows(alloc, values, grid, places, rows)?))
+        }
+        Form::Mixed(_) => Ok(None),
+    }
+}
+
+/// A chunk with other cells.
+fn with_cells(chunk: Chunk, cells: Cells) -> Chunk
+    ensures number { result.at ≡ chunk.at }
+    ensures positions { result.positions ≡ chunk.positions }
+    ensures cells { result.cells ≡ cells }
+{
+    let Chunk {
+        at,
+        positions,
+        cells: _,
+    } = chunk;
+    Chunk {
+        at,
+        positions,
+        cells,
+    }
+}
+
 /// Each cell of a chunk with the applied values after its own. No cell is copied.
 pub fn apply_chunk(
     schema: &Schema,
@@ -75,5 +115,10 @@ pub fn apply_chunk(
     ensures part { (rows : Items Row) → IsPart schema.now.dimensions margins.now.items rows chunk
         → IfOk result (IsPart schema.now.dimensions margins.now.items (apply_rows values.now rows)) }
 {
-    change_chunk(schema, margins, chunk, &Apply { values })
+    let grid = grid_of(schema, margins, &chunk.at);
+    match applied_cells(&grid, &chunk, values) {
+        Ok(Some(cells)) => Ok(with_cells(chunk, cells)),
+        Ok(None) => change_chunk(schema, margins, chunk, &Apply { values }),
+        Err(Memory) => Err(Memory),
+    }
 }
