@@ -1,5 +1,5 @@
 -- The backup of a database of no arrays, and texts that differ from it.
-use Rattle.std.proofs.Common.{◌≡◌, ℕ, List, [], ◌∷◌, ◌++◌, refl}
+use Rattle.std.proofs.Common.{refl}
 use Rattle.sha2.specs.Sha256.{sha256, first_words, schedule, rounds, compress, hash_after, digest_bytes}
 use Rattle.file_items.specs.Items.{repeat}
 use Rattle.backup_format.specs.Spelling.{spell_arrays}

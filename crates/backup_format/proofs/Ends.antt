@@ -1,5 +1,5 @@
 -- Ends of bytes, and lists with one more item.
-use Rattle.std.proofs.Common.{◌≡◌, ℕ, zero, suc, ◌<◌, List, [], ◌∷◌, ◌++◌, map, length, get_or, Result, Ok, refl, sym, ap, subst, ◌∙◌, append_assoc}
+use Rattle.std.proofs.Common.{◌≡◌, ℕ, suc, List, [], ◌∷◌, ◌++◌, map, Ok, refl, sym, ap, subst, ◌∙◌, append_assoc}
 use Rattle.file_items.specs.Items.{Reading}
 use Rattle.file_items.proofs.BytesLaws.{AreBytes, Reads}
 use Rattle.backup_format.specs.PiecePlaces.{EndsWith}

@@ -1,18 +1,17 @@
 -- What is read is spelled so, and what is spelled so is read.
-use Rattle.std.proofs.Common.{◌≡◌, ℕ, zero, suc, ◌^◌, ◌<◌, ◌≤◌, ◌+◌, ◌-◌, Bool, true, false, cond, ltb, eqb, ◌&&◌, nat_lt, nat_le, List, [], ◌∷◌, ◌++◌, length, get_or, take, drop, Option, None, Result, Ok, Err, refl, sym, ap, subst, ◌∙◌, append_assoc, arith}
+use Rattle.std.proofs.Common.{◌≡◌, ℕ, zero, suc, ◌^◌, ◌<◌, ◌≤◌, ◌-◌, Bool, true, false, cond, ltb, eqb, ◌&&◌, nat_lt, nat_le, List, [], ◌∷◌, ◌++◌, length, take, drop, Option, None, Result, Ok, Err, refl, sym, ap, subst, ◌∙◌, append_assoc, arith}
 use Rattle.std.specs.Prelude.{◌==◌, slice_index}
 use Rattle.std.specs.Int.{w32, w64, to_le_bytes, to_be_bytes}
 use Rattle.std.specs.List.{flat_map}
 use Rattle.std.specs.Str.{bytes_eq}
-use Rattle.std.proofs.lemmas.Bool.{and_parts, ltb-false, ltb-true, leb-true, le-ltb, eqb-true}
-use Rattle.std.proofs.lemmas.List.{take_at, drop_at, take-append-drop, length-append, length-take, append-nil, nil_from_length}
+use Rattle.std.proofs.lemmas.Bool.{and_parts, ltb-true, leb-true, le-ltb, eqb-true}
+use Rattle.std.proofs.lemmas.List.{take_at, drop_at, length-append, append-nil, nil_from_length}
 use Rattle.std.proofs.lemmas.Slice.Eq.{bytes_eq-Decides}
 use Rattle.sha2.specs.Sha256.{sha256, digest_bytes, final_hash, initial_hash_256}
 use Rattle.cell_values.specs.declared.schema.Dimension.{Dimension}
 use Rattle.cell_values.specs.declared.schema.Schema.{Schema}
-use Rattle.array_geom.specs.declared.chunk.Chunk.{Chunk}
 use Rattle.array_geom.specs.Geometry.{ChunkNumber}
-use Rattle.file_items.specs.Items.{◌>>=◌, Reading, number_at, bytes_at, item, repeat, counted, spell_counted, Are, AreCounted}
+use Rattle.file_items.specs.Items.{◌>>=◌, Reading, number_at, bytes_at, item, counted, spell_counted, Are, AreCounted}
 use Rattle.file_items.specs.Pages.{positive_at}
 use Rattle.file_items.specs.Spelling.{spell_name, spell_schema}
 use Rattle.file_items.specs.Table.{name_at, schema_at}
@@ -25,7 +24,7 @@ use Rattle.version_catalog.proofs.Handing.{reads_behind}
 use Rattle.backup_format.specs.Pieces.{Piece, PiecesVersion, PiecesArray}
 use Rattle.backup_format.specs.Spelling.{text, spell_piece, spell_version, spell_array, spell_arrays, signed}
 use Rattle.backup_format.specs.Laws.{IsPayload, IsPlaced, IsNextPiece, IsNextVersion, IsNextArray, AreArrays, ReadIsSpelled, SpelledIsRead}
-use Rattle.backup_format.specs.Table.{Placing, is_placed, next_placing, placed_number, numbers_at, outside, framed, chunk_in, payload_at, piece_after, next_piece, number_in, rows_of, fit_together, checked, wrong_piece, pieces_at, version_at, next_version, last_in, Numbered, numbered_at, Content, content_at, array_at, next_array, name_in, arrays_at, trailer_at, backup_in}
+use Rattle.backup_format.specs.Table.{Placing, is_placed, next_placing, placed_number, numbers_at, outside, framed, chunk_in, payload_at, piece_after, next_piece, number_in, fit_together, checked, wrong_piece, pieces_at, version_at, next_version, last_in, Numbered, numbered_at, Content, content_at, array_at, next_array, name_in, arrays_at, trailer_at, backup_in}
 
 abbrev any_count : ℕ → Bool
 any_count count = true

@@ -1,5 +1,5 @@
 -- The name of the last array, and the loop over the arrays.
-use Rattle.std.proofs.Common.{◌≡◌, ℕ, zero, suc, ◌+◌, ◌-◌, ◌≤◌, ◌<◌, List, [], ◌∷◌, ◌++◌, length, get_or, map, Option, Some, None, Result, Ok, refl, sym, ap, subst, ◌∙◌, arith}
+use Rattle.std.proofs.Common.{◌≡◌, ℕ, zero, suc, ◌+◌, ◌-◌, ◌≤◌, ◌<◌, List, [], ◌∷◌, ◌++◌, length, get_or, Option, Some, Result, Ok, refl, sym, ap, subst, ◌∙◌, arith}
 use Rattle.file_items.specs.Items.{repeat, Stopped}
 use Rattle.file_items.specs.declared.bytes.stop.Stop.{Stop}
 use Rattle.file_items.proofs.Loop.{behind, one_more, stops_here}

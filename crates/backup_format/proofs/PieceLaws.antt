@@ -1,15 +1,12 @@
 -- What holds of pieces that were read: their chunks are stored ones, whose numbers rise, and each tells how many bytes are left.
-use Rattle.std.proofs.Common.{◌≡◌, ℕ, zero, suc, ◌+◌, ◌-◌, ◌<◌, ◌≤◌, ◌^◌, Bool, true, false, cond, ◌&&◌, nat_le, List, [], ◌∷◌, ◌++◌, length, map, get_or, take, drop, Option, Some, None, Result, Ok, Err, refl, sym, ap, subst, ◌∙◌, append_assoc, arith}
+use Rattle.std.proofs.Common.{◌≡◌, ℕ, zero, suc, ◌+◌, ◌-◌, ◌<◌, ◌≤◌, Bool, true, false, cond, ◌&&◌, nat_le, List, [], ◌∷◌, ◌++◌, length, map, get_or, take, drop, Option, Some, None, Result, Ok, Err, refl, sym, ap, subst, ◌∙◌, append_assoc, arith}
 use Rattle.std.specs.Prelude.{◌==◌, int_le}
 use Rattle.std.specs.Int.{w64, to_le_bytes}
 use Rattle.std.specs.List.{AllByRecursion, flat_map, list_all}
-use Rattle.std.specs.Option.{option_map}
-use Rattle.std.specs.Ordering.{nat_cmp}
 use Rattle.std.specs.declared.cmp.Ordering.TheVariants.{Less}
 use Rattle.std.proofs.lemmas.Bool.{and_parts, and_from, leb-true}
 use Rattle.std.proofs.lemmas.Cmp.{nat_list_cmp_total}
 use Rattle.std.proofs.lemmas.List.{length-append, append-nil, take_at, drop_at}
-use Rattle.std.proofs.lemmas.List.Concat.{flat_map-cons}
 use Rattle.std.proofs.lemmas.Grind.{flat_map-append}
 use Rattle.arrayvec.specs.ArrayVec.{ArrayVec}
 use Rattle.cell_values.specs.declared.schema.Dimension.{Dimension}
@@ -25,11 +22,11 @@ use Rattle.chunk_map.specs.Table.{is_number, next_number}
 use Rattle.chunk_map.proofs.Laws.{IsNumber}
 use Rattle.chunk_map.proofs.Rules.{above}
 use Rattle.file_items.specs.Items.{Are, repeat}
-use Rattle.file_items.proofs.BytesLaws.{AreBytes, Begins, repeat_reads}
+use Rattle.file_items.proofs.BytesLaws.{AreBytes, repeat_reads}
 use Rattle.backup_format.specs.Pieces.{Piece}
 use Rattle.backup_format.specs.Spelling.{spell_piece}
 use Rattle.backup_format.specs.Laws.{IsPlaced, IsPayload, IsNextPiece}
-use Rattle.backup_format.specs.Table.{Placing, has_place, is_placed, next_placing, chunk_in, chunk_or_none, chunk_of_piece, piece_after, next_piece, number_in, numbers_at, left_at, rows_of, is_its_payload, fit_together, wrong_piece}
+use Rattle.backup_format.specs.Table.{Placing, has_place, next_placing, chunk_in, chunk_or_none, chunk_of_piece, piece_after, next_piece, number_in, numbers_at, left_at, rows_of, is_its_payload, fit_together, wrong_piece}
 use Rattle.backup_format.proofs.ItemLaws.{numbers_reads, piece_reads}
 use Rattle.file_items.proofs.Loop.{behind, one_more}
 use Rattle.backup_format.specs.declared.pieces.PieceAt.{PieceAt}

@@ -1,5 +1,5 @@
 -- Streams of one array, `A <v:int64>[i=0:3,2,1]`, whose version 1 has two chunks, and where they are wrong.
-use Rattle.std.proofs.Common.{◌≡◌, ℕ, List, [], ◌∷◌, ◌++◌, length, Option, Some, None, refl}
+use Rattle.std.proofs.Common.{◌≡◌, ℕ, List, [], ◌∷◌, length, Option, Some, None, refl}
 use Rattle.sha2.specs.Sha256.{sha256, first_words, schedule, rounds, compress, hash_after, digest_bytes}
 use Rattle.chunk_rle.specs.Chunks.{chunk_payload, spelling}
 use Rattle.chunk_rle.specs.Frames.{all_from, any_from, is_held}

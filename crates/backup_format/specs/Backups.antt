@@ -1,5 +1,5 @@
 -- Backups of databases.
-use Rattle.std.specs.Prelude.{◌≡◌, ◌<◌, ◌≤◌, ◌^◌, ℕ, List, length, Option, Some, Result, Ok, Err, slice_index}
+use Rattle.std.specs.Prelude.{◌≡◌, ◌<◌, ◌^◌, ℕ, List, length, Some, Ok, slice_index}
 use Rattle.std.specs.List.{AllByRecursion}
 use Rattle.file_items.specs.Items.{wrong_at}
 use Rattle.plan_changes.specs.Databases.{Database}

@@ -1,5 +1,5 @@
 -- What the bytes of a backup hold: arrays by name, their versions, and of each version the payloads of its chunks.
-use Rattle.std.specs.Prelude.{ℕ, List, [], ◌∷◌, map, Option, Some, None}
+use Rattle.std.specs.Prelude.{ℕ, List, [], ◌∷◌, map}
 use Rattle.std.specs.declared.cmp.Ordering.{Ordering}
 use Rattle.std.specs.declared.cmp.Ordering.TheVariants.{Less, Equal, Greater}
 use Rattle.cell_values.specs.declared.datum.Row.{Row}

@@ -1,5 +1,5 @@
 -- The backup of a database of no arrays, and texts that differ from it.
-use Rattle.std.specs.Prelude.{◌≡◌, ℕ, List, [], ◌∷◌, ◌++◌, take, length, Ok}
+use Rattle.std.specs.Prelude.{◌≡◌, ℕ, List, [], ◌∷◌, ◌++◌, length, Ok}
 use Rattle.backup_format.specs.Backups.{backup, IsNoBackupAt}
 use Rattle.backup_format.specs.Table.{backup_in}
 

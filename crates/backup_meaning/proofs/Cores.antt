@@ -1,10 +1,10 @@
 -- The rows of the cores of stored chunks: an array's sound rows, and a cell in just the cores that there are.
 use Rattle.std.proofs.Common.{◌≡◌, ◌∙◌, ℕ, ℤ, Bool, true, false, cond, List, [], ◌∷◌, length, refl, sym, ap, subst, arith}
-use Rattle.std.specs.Prelude.{◌||◌, int_le}
+use Rattle.std.specs.Prelude.{◌||◌}
 use Rattle.std.specs.List.{AllByRecursion, AllZip, list_any}
 use Rattle.std.specs.declared.cmp.Ordering.{Ordering}
 use Rattle.std.specs.declared.cmp.Ordering.TheVariants.{Less, Equal, Greater}
-use Rattle.std.proofs.lemmas.Bool.{and_from, and_parts}
+use Rattle.std.proofs.lemmas.Bool.{and_from}
 use Rattle.cell_values.specs.declared.datum.Cell.{Cell}
 use Rattle.cell_values.specs.declared.datum.Cell.TheVariants.{Full, Doubt}
 use Rattle.cell_values.specs.declared.datum.Datum.{Datum}
@@ -21,7 +21,7 @@ use Rattle.array_geom.specs.Rows.{IsRising, placed, put_all, put_by, put_row, ro
 use Rattle.array_geom.proofs.RowSets.{IsRising-put_all, rows_where-put_all}
 use Rattle.array_geom.specs.declared.chunk.Chunk.{Chunk}
 use Rattle.array_geom.specs.Chunks.{IsChunk}
-use Rattle.array_geom.specs.Geometry.{ChunkNumber, core, coordinate_in, first_in, frame_low, frame_lengths, has_core, overlaps}
+use Rattle.array_geom.specs.Geometry.{ChunkNumber, core, coordinate_in, frame_low, frame_lengths, overlaps}
 use Rattle.array_geom.specs.Inner.Ranges.{AreNear}
 use Rattle.array_geom.specs.Link.{chunk_rows, core_rows, has_cell, is_listed, is_not_empty, numbers, rows_in, NumbersRise}
 use Rattle.array_geom.proofs.CoreLaws.{core_of}

@@ -1,6 +1,3 @@
-use Rattle.std.proofs.Common.{ap}
-use Rattle.std.specs.Prelude.{IfOk}
-use Rattle.std.specs.List.{AllByRecursion}
 use Rattle.array_geom.specs.Geometry.{frame, overlaps}
 use Rattle.array_geom.specs.Link.{core_rows}
 use Rattle.area_cells.proofs.PieceLaws.{all_within}

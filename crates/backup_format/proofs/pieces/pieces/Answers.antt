@@ -1,4 +1,4 @@
-use Rattle.std.proofs.Common.{◌<◌, ◌^◌, ℕ, subst, sym, arith}
+use Rattle.std.proofs.Common.{◌<◌, ◌^◌, ℕ, arith}
 use Rattle.std.specs.Int.{w64, to_le_bytes}
 use Rattle.file_items.specs.Items.{number_at}
 use Rattle.file_items.proofs.BytesLaws.{exact64, number_reads}

@@ -1,5 +1,4 @@
-use Rattle.std.proofs.Common.{◌+◌, ◌-◌, length, None, refl, sym, ap, subst, arith}
-use Rattle.std.specs.List.{AllByRecursion}
+use Rattle.std.proofs.Common.{◌+◌, ◌-◌, length, None, refl, ap, arith}
 use Rattle.std.specs.Option.{option_map}
 use Rattle.file_items.specs.Items.{repeat}
 use Rattle.file_items.proofs.Loop.{stops_here, all_read}
