@@ -1,0 +1,10 @@
+pub use Rattle.plan_changes.specs.Databases
+pub use Rattle.plan_changes.specs.Stored
+pub mod Backups
+pub mod Decoding
+pub mod Laws
+pub mod PiecePlaces
+pub mod Pieces
+pub mod Spelling
+pub mod Table
+pub mod Worked
