@@ -4,6 +4,7 @@ pub mod ChunkLaws
 pub mod ComputedLaws
 pub mod CoreCells
 pub mod CutLaws
+pub mod FilterLaws
 pub mod NumberLists
 pub mod Picking
 pub mod PlaceSteps

@@ -85,3 +85,6 @@ number_found e at values s n p q = sym (subst (λ x. IsSeen x (value_of e at val
 
 pub truth_found : (e : Expr) (at : List ℤ) (values : List Datum) (s : Small) (b : Bool) → s ≡ small_at e at values → s ≡ Truth b → TruthValue b ≡ value_of e at values
 truth_found e at values s b p q = sym (subst (λ x. IsSeen x (value_of e at values)) (sym p ∙ q) (is_value at at values (λ place. seen_is (number_at at place)) e))
+
+pub truth_at : (e : Expr) (at : List ℤ) (values : List Datum) (s : Small) (b t : Bool) → s ≡ small_at e at values → s ≡ Truth b → b ≡ t → value_of e at values ≡ TruthValue t
+truth_at e at values s b t p q r = sym (truth_found e at values s b p q) ∙ ap TruthValue r

@@ -4,4 +4,4 @@ mod smalls;
 mod walking;
 
 pub use walking::walk;
-pub(crate) use walking::walk_at;
+pub(crate) use walking::{names_dimension, walk_at};

@@ -2,7 +2,7 @@
 ghost use Rattle.std.specs.Prelude.{◌≡◌, ◌<◌, [], length, slice_index_or};
 ghost use Rattle.expr_nulls.specs.ExprValue.{number_at};
 ghost use Rattle.array_rows.specs.Seen.{seen};
-ghost use Rattle.exec_cellwise.specs.Inner.Smalls.{small_at, small_of};
+ghost use Rattle.exec_cellwise.specs.Inner.Smalls.{names_dimension, small_at, small_of};
 
 use crate::columns::smalls::{both, calculate_both, compare_both, either};
 use array_rows::{Rows, Small, small_value};
@@ -15,6 +15,20 @@ fn number_at(at: &[i64], place: usize) -> Small
     match at.get(place) {
         Some(number) => Small::Number(*number),
         None => Small::Other,
+    }
+}
+
+/// Whether a walk over an expression comes to a number of a coordinate.
+pub(crate) fn names_dimension(value: &TypedExpr) -> bool
+    ensures { result ≡ names_dimension value.now }
+{
+    match &value.node {
+        ExprNode::Dim(_) => true,
+        ExprNode::Arith(_, a, b) => names_dimension(a) || names_dimension(b),
+        ExprNode::Compare(_, a, b) => names_dimension(a) || names_dimension(b),
+        ExprNode::And(a, b) => names_dimension(a) || names_dimension(b),
+        ExprNode::Or(a, b) => names_dimension(a) || names_dimension(b),
+        _ => false,
     }
 }
 
