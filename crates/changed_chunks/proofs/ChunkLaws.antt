@@ -31,9 +31,10 @@ use Rattle.logical_plan.specs.declared.parts.Leaf.{Leaf}
 use Rattle.logical_plan.specs.Typing.{AreSound, is_sound, may_all_stand, may_stand}
 use Rattle.plan_changes.proofs.NamesOf.{map_filter}
 use Rattle.chunk_source.specs.Laws.{HasSoundCells}
-use Rattle.chunk_source.specs.Source.{IsStored as IsRead}
+use Rattle.chunk_source.specs.Source.{IsStored as IsRead, numbers_of}
 use Rattle.chunk_source.specs.declared.reading.fault.ExecFault.{ExecFault}
-use Rattle.chunk_source.proofs.ReadingLeafLaws.{are_valid, stored_placed}
+use Rattle.chunk_source.proofs.AloneLaws.{rise_kept}
+use Rattle.chunk_source.proofs.ReadingLeafLaws.{are_valid, stored_numbers, stored_placed}
 use Rattle.changed_chunks.specs.Inner.Input.{AreStoredChunks}
 
 -- ---- sound cells of a schema are those that are stored
@@ -104,19 +105,24 @@ sound_read schema [] (c ∷ chunks) a = absurd a
 sound_read schema (k ∷ listed) [] a = absurd a
 sound_read schema (k ∷ listed) (c ∷ chunks) a = (a.0.sound, sound_read schema listed chunks a.1)
 
-are_stored : (schema : Schema) (listed : List (ArrayVec ℕ)) (chunks : List Chunk) → IsValid schema → AllZip (IsRead schema) listed chunks → AreStoredChunks schema chunks
-are_stored schema listed chunks valid read =
+are_stored : (schema : Schema) (listed : List (ArrayVec ℕ)) (chunks : List Chunk) → IsValid schema → NumbersRise (numbers_of listed) → AllZip (IsRead schema) listed chunks → AreStoredChunks schema chunks
+are_stored schema listed chunks valid rising read =
     let margins = overlaps schema.dimensions in
     record {
       valid = valid;
+      rising = subst NumbersRise (sym (stored_numbers schema listed chunks read)) rising;
       placed = stored_placed schema listed chunks read;
       rows_of = all_valid schema margins chunks (are_valid schema margins listed chunks refl read);
       sound = sound_read schema listed chunks read;
     }
 
-pub read_stored : (leaf : Leaf) (listed : List (ArrayVec ℕ)) (answer : Result (List Chunk) ExecFault) → IsValid leaf.schema → IfOk answer (AllZip (IsRead leaf.schema) listed) → IfOk answer (AreStoredChunks leaf.schema)
-read_stored leaf listed (Ok chunks) valid read = are_stored leaf.schema listed chunks valid read
-read_stored leaf listed (Err fault) valid read = tt
+pub read_stored : (leaf : Leaf) (listed : List (ArrayVec ℕ)) (answer : Result (List Chunk) ExecFault) → IsValid leaf.schema → NumbersRise (numbers_of listed) → IfOk answer (AllZip (IsRead leaf.schema) listed) → IfOk answer (AreStoredChunks leaf.schema)
+read_stored leaf listed (Ok chunks) valid rising read = are_stored leaf.schema listed chunks valid rising read
+read_stored leaf listed (Err fault) valid rising read = tt
+
+-- the wanted ones of numbers that rise
+pub wanted_rising : (p : ArrayVec ℕ → Bool) (stored wanted : List (ArrayVec ℕ)) → wanted ≡ filter p stored → NumbersRise (numbers_of stored) → NumbersRise (numbers_of wanted)
+wanted_rising p stored wanted is rising = subst (λ (ks : List (ArrayVec ℕ)). NumbersRise (numbers_of ks)) (sym is) (rise_kept p stored rising)
 
 -- ---- lists
 

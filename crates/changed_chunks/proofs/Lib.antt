@@ -1,9 +1,11 @@
 pub mod Asked
 pub mod ChunkLaws
 mod ChunksWorked
+pub mod CoresAlone
 pub mod Counted
 pub mod Counting
 pub mod Kept
+pub mod OverCores
 pub mod Reach
 pub mod Rows
 pub mod Serves

@@ -14,20 +14,22 @@ use Rattle.cell_values.specs.declared.schema.Schema.{Schema}
 use Rattle.array_rows.specs.Boxes.{bounds_of, is_inside, within}
 use Rattle.array_rows.specs.Rows.{Coordinate}
 use Rattle.array_rows.proofs.RowsLemmas.{cond_out}
-use Rattle.array_geom.specs.Geometry.{ChunkNumber, HasFrame, chunk_of, core_meets, first_in, frame, has_core, last_in, overlaps}
+use Rattle.array_geom.specs.Geometry.{ChunkNumber, HasFrame, chunk_of, core, core_meets, first_in, frame, has_core, last_in, overlaps}
 use Rattle.array_geom.specs.Inner.Ranges.{AreNear, IsNear}
-use Rattle.array_geom.specs.Link.{is_not_empty}
-use Rattle.array_geom.proofs.CoreLaws.{chunk_has_core, up_to_the_end}
+use Rattle.array_geom.specs.Link.{has_cell, is_not_empty}
+use Rattle.array_geom.proofs.CoreLaws.{chunk_has_core, core_in_frame, up_to_the_end}
+use Rattle.array_geom.proofs.LinkLaws.{within-within}
 use Rattle.array_geom.proofs.NearLemmas.{valid_placed}
 use Rattle.array_geom.proofs.PlaceLaws.{above}
 use Rattle.array_geom.proofs.TestLaws.{and_both, and_parts, le_from_test, le_test}
 use Rattle.commit_pages.specs.Lengths.{meets}
+use Rattle.plan_needs.proofs.AlikeScans.{chunk_meets}
 use Rattle.changed_chunks.specs.Inner.Reach.{places_near, reach}
-use Rattle.changed_chunks.specs.Wanted.{all_numbers, below, count_along, touched}
+use Rattle.changed_chunks.specs.Wanted.{all_numbers, below, count_along, is_wanted, touched}
 
 -- ---- tests and lists
 
-same_test : (a b : Bool) → (a ≡ true → b ≡ true) → (b ≡ true → a ≡ true) → a ≡ b
+pub same_test : (a b : Bool) → (a ≡ true → b ≡ true) → (b ≡ true → a ≡ true) → a ≡ b
 same_test true b f g = sym (f refl)
 same_test false true f g = g refl
 same_test false false f g = refl
@@ -424,3 +426,36 @@ frame_there schema margins k n c framed inside is = record {
   each = framed.each;
   places = framed.places;
 }
+
+-- ---- a chunk whose core holds a row that is put in
+
+pub met_of : (inner outer : Bounds) (rows : List Row) → ((c : Coordinate) → is_inside inner c ≡ true → is_inside outer c ≡ true) → is_not_empty (within inner rows) ≡ true → is_not_empty (within outer rows) ≡ true
+met_of inner outer rows lies some = by_rows (within outer rows) (within-within inner outer rows lies)
+  where
+    by_rows : (found : List Row) → within inner found ≡ within inner rows → is_not_empty found ≡ true
+    by_rows [] e = let none : false ≡ true = ap is_not_empty e ∙ some in absurd cc
+    by_rows (row ∷ found) e = refl
+
+record HasPlaceIn (area : Bounds) : Type 0 where
+  at : Coordinate
+  inside : is_inside area at ≡ true
+
+place_in : (area : Bounds) (rows : List Row) → is_not_empty (within area rows) ≡ true → HasPlaceIn area
+place_in area [] e = absurd cc
+place_in area (row ∷ rows) e = by_test (is_inside area row.at.items) refl e (place_in area rows)
+  where
+    by_test : (t : Bool) → is_inside area row.at.items ≡ t → is_not_empty (cond t (row ∷ within area rows) (within area rows)) ≡ true → (is_not_empty (within area rows) ≡ true → HasPlaceIn area) → HasPlaceIn area
+    by_test true f g later = record { at = row.at.items; inside = f }
+    by_test false f g later = later g
+
+-- it is wanted
+pub held_wanted : (dims : List Dimension) (k : ChunkNumber) (rows : List Row) → AreNear dims → length (overlaps dims) ≡ length dims → has_core dims k ≡ true → has_cell dims rows k ≡ true → is_wanted dims rows k ≡ true
+held_wanted dims k rows near n cored held =
+    let area = frame dims (overlaps dims) k in
+    let place = place_in (core dims k) rows held in
+    let framed = λ (c : Coordinate). core_in_frame dims (overlaps dims) k c n in
+    let touches : meets dims rows k ≡ true = met_of (core dims k) area rows framed held in
+    let met : core_meets dims area k ≡ true = chunk_meets dims area k place.at place.inside (framed place.at place.inside) in
+    and_both _ _ cored
+    (any_filter (λ j. core_meets dims (frame dims (overlaps dims) j) k) (λ j. meets dims rows j) (all_numbers dims)
+    ∙ any_number dims (λ j. meets dims rows j && core_meets dims (frame dims (overlaps dims) j) k) k near cored (and_both _ _ touches met))

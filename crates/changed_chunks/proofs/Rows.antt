@@ -31,7 +31,7 @@ use Rattle.plan_changes.specs.Typed.{FitsInto, same_kinds}
 use Rattle.plan_changes.proofs.FitLaws.{bounds_alike, fit_array, fit_sound, kinds_alike}
 use Rattle.chunk_source.specs.Source.{SourceState}
 use Rattle.changed_chunks.specs.Changing.{CanStore}
-use Rattle.changed_chunks.specs.Inner.Input.{IsFound, MayBeStored, TakesRows, fitted_cores}
+use Rattle.changed_chunks.specs.Inner.Input.{IsFound, MayBeStored, TakesRows, fitted_cores, found_cores}
 
 -- ---- a schema that takes the rows of a plan's array
 
@@ -98,3 +98,8 @@ may_be_stored schema array rows (Ok some) valid cells takes f is =
 pub found_there : (db : Database) (schema : Schema) (plan : Query) (array : ChunkedArray) (found : Result (List Row) Broken) → Is array (meaning (rows_of db) plan) → IsFound (fitted_cores schema array) found → IsFound (fitted schema plan db) found
 found_there db schema plan array found is f =
     subst (λ (m : Meant). IsFound (if_whole (fit_rows schema.attributes) m.rows) found) (arrays_are_their_cores array (meaning (rows_of db) plan) is) f
+
+-- what is found of rows is found of an array of them
+pub found_on : {E : Type 0} (fitted found : Result (List Row) Broken) (answer : Result (Result ChunkedArray Broken) E) → IsFound fitted found → IfOk answer (λ made. found_cores made ≡ found) → IfOk answer (λ made. IsFound fitted (found_cores made))
+found_on fitted found (Ok made) is e = subst (IsFound fitted) (sym e) is
+found_on fitted found (Err error) is e = tt

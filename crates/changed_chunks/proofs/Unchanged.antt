@@ -53,7 +53,12 @@ use Rattle.changed_chunks.specs.Changing.{IsAnswerOver}
 use Rattle.changed_chunks.specs.Inner.Input.{CanBeStored, IsFound, fitted_cores}
 use Rattle.changed_chunks.specs.Inner.Unchanged.{AreNumbers, AreNumbersAt, HaveNoFault, IsStorable, MayStandAt, MayStandFrom, IsStorableChunk}
 use Rattle.changed_chunks.specs.Inner.Writes.{IsStoreOf, IsInsertOf}
+use Rattle.array_parts.specs.Parts.{holds_cell}
+use Rattle.area_cells.specs.Margins.{no_margins}
+use Rattle.chunk_source.specs.Inner.Alone.{have_no_overlap}
 use Rattle.changed_chunks.proofs.ChunkLaws.{sound_cores, stored_chunks}
+use Rattle.changed_chunks.proofs.CoresAlone.{alone_chunks, no_overlap, own_part}
+use Rattle.changed_chunks.proofs.Reach.{met_of}
 use Rattle.changed_chunks.proofs.Rows.{found_there}
 use Rattle.changed_chunks.proofs.Told.{answers_store}
 use Rattle.changed_chunks.proofs.Written.{all_written}
@@ -244,25 +249,7 @@ rows_whole : (schema : Schema) (rows : List Row) → AllByRecursion (λ row. IsC
 rows_whole schema [] kinds sound = refl
 rows_whole schema (row ∷ rows) kinds sound = rw (cell_whole schema.attributes row.cell kinds.0 sound.0, rows_whole schema rows kinds.1 sound.1) refl
 
--- ---- a chunk is a part of its own rows
-
-keeps_all : (area : Bounds) (low : List ℤ) (lengths positions : List ℕ) (cells : List Cell) → AllByRecursion (λ p. is_inside area (coordinate_in low lengths p) ≡ true) positions → within area (rows_in low lengths positions cells) ≡ rows_in low lengths positions cells
-keeps_all area low lengths [] cells are = refl
-keeps_all area low lengths (p ∷ positions) [] are = refl
-keeps_all area low lengths (p ∷ positions) (cell ∷ cells) are = rw (are.0, keeps_all area low lengths positions cells are.1) refl
-
-all_in_frame : (schema : Schema) (margins k positions : List ℕ) → HasFrame schema margins k → AllByRecursion (λ p. p < volume (frame_lengths schema.dimensions margins)) positions
-    → AllByRecursion (λ p. is_inside (frame schema.dimensions margins k) (coordinate_in (frame_low schema.dimensions margins k) (frame_lengths schema.dimensions margins) p) ≡ true) positions
-all_in_frame schema margins k [] framed are = tt
-all_in_frame schema margins k (p ∷ positions) framed are = ((coordinate_at_place schema margins k p framed are.0).0, all_in_frame schema margins k positions framed are.1)
-
-own_part : (schema : Schema) (margins : List ℕ) (chunk : Chunk) → HasPlaces schema margins chunk → IsPart schema.dimensions margins (chunk_rows schema.dimensions margins chunk) chunk
-own_part schema margins chunk places = record {
-  each = places.placed.each;
-  in_frame = places.placed.in_frame;
-  cells = sym (keeps_all (frame schema.dimensions margins chunk.at.items) (frame_low schema.dimensions margins chunk.at.items) (frame_lengths schema.dimensions margins) chunk.positions chunk.cells
-      (all_in_frame schema margins chunk.at.items chunk.positions places.framed places.placed.in_frame));
-}
+-- ---- chunks that are valid
 
 all_chunks : (schema : Schema) (margins : List ℕ) (chunks : List Chunk) → AllByRecursion (HasPlaces schema margins) chunks → AllByRecursion (λ chunk. AreRowsOf schema (chunk_rows schema.dimensions margins chunk)) chunks
     → AllByRecursion (IsStorableChunk schema margins) chunks → AllByRecursion (IsChunk schema margins) chunks
@@ -271,6 +258,10 @@ all_chunks schema margins (chunk ∷ chunks) places rows are = (
   valid_chunk schema margins (chunk_rows schema.dimensions margins chunk) chunk (own_part schema margins chunk places.0) rows.0 places.0 are.0.held,
   all_chunks schema margins chunks places.1 rows.1 are.1,
 )
+
+held_all : (schema : Schema) (margins : List ℕ) (chunks : List Chunk) → AllByRecursion (IsStorableChunk schema margins) chunks → AllByRecursion (λ chunk. holds_cell schema.dimensions margins chunk ≡ true) chunks
+held_all schema margins [] are = tt
+held_all schema margins (chunk ∷ chunks) are = (are.0.held, held_all schema margins chunks are.1)
 
 -- ---- the array
 
@@ -294,7 +285,7 @@ module _ (schema : Schema) (array : ChunkedArray) (cells : HasCells array) (is :
         (subst (λ (ms : List ℕ). AllByRecursion (IsChunk array.schema ms) array.chunks) overlapping (all_chunks array.schema array.margins.items array.chunks have.placed.all have.rows_of is.chunks)) all_sound;
   }
 
-  found_unchanged : IsFound (fitted_cores schema array) (Ok (cores_of array))
+  pub found_unchanged : IsFound (fitted_cores schema array) (Ok (cores_of array))
   found_unchanged =
       let fits : fit_rows schema.attributes (cores_of array) ≡ cores_of array = subst (λ (s : Schema). fit_rows s.attributes (cores_of array) ≡ cores_of array) is.same (rows_fit array.schema (cores_of array) rows_sound) in
       let none : first_fault (cores_of array) ≡ None = rows_whole array.schema (cores_of array) (cores_are_rows array.schema array.margins.items array.chunks have).kinds rows_sound in
@@ -312,6 +303,22 @@ module _ (schema : Schema) (array : ChunkedArray) (cells : HasCells array) (is :
           subst (HoldsRows meant.schema array) (sym (chunks_have_their_rows meant.schema array rows holds) ∙ ap (λ (s : Schema). core_rows s.dimensions array.margins.items array.chunks) (sym of.schema)) holds
       by_rows (Err broken) holds = let e : None ≡ Some broken = sym is.whole ∙ holds in absurd cc
 
+  -- where no chunk has an overlap it can be stored, whatever the source tells
+  pub alone_can : have_no_overlap schema.dimensions ≡ true → CanBeStored array
+  alone_can none =
+      let zero : array.margins.items ≡ no_margins array.schema.dimensions = overlapping ∙ no_overlap array.schema.dimensions (subst (λ (s : Schema). have_no_overlap s.dimensions ≡ true) (sym is.same) none) in
+      record {
+        margins = overlapping;
+        holds = record {
+          whole = is.whole;
+          rows_of = cores_are_rows array.schema array.margins.items array.chunks have;
+          each = have.placed.each;
+          places = have.placed.places;
+          chunks = alone_chunks array.schema array.margins.items array.chunks have zero (held_all array.schema array.margins.items array.chunks is.chunks);
+        };
+        sound = rows_sound;
+      }
+
   pub unchanged_told : (db : Database) (name : List ℕ) (plan : Query) (changed : Changed) → Is array (meaning (rows_of db) plan) → MeansArray db plan → changed ≡ record { schema = array.schema; whole = true; chunks = array.chunks }
       → IsAnswerOver db (Store name schema plan) (Ok changed)
   unchanged_told db name plan changed of means e =
@@ -327,13 +334,6 @@ rows_told schema array found (Ok made) is told = λ db name plan of means. told 
 rows_told schema array found (Err error) is told = tt
 
 -- ---- an insert over nothing
-
-met_of : (inner outer : Bounds) (rows : List Row) → ((c : Coordinate) → is_inside inner c ≡ true → is_inside outer c ≡ true) → is_not_empty (within inner rows) ≡ true → is_not_empty (within outer rows) ≡ true
-met_of inner outer rows lies some = by_rows (within outer rows) (within-within inner outer rows lies)
-  where
-    by_rows : (found : List Row) → within inner found ≡ within inner rows → is_not_empty found ≡ true
-    by_rows [] e = let none : false ≡ true = ap is_not_empty e ∙ some in absurd cc
-    by_rows (row ∷ found) e = refl
 
 -- a chunk whose core holds a row is met
 has_and_meets : (dims : List Dimension) (rows : List Row) (k : ChunkNumber) → has_cell dims rows k ≡ (has_cell dims rows k && meets dims rows k)

@@ -29,7 +29,7 @@ use Rattle.area_cells.proofs.CutLaws.{core_rows-append}
 use Rattle.area_cells.proofs.PieceLaws.{rise_in_any}
 use Rattle.chunk_rle.specs.Stored.{IsStored}
 use Rattle.chunk_source.specs.Laws.{HasSoundCells}
-use Rattle.chunk_source.proofs.ReadingLeafLaws.{each_overlap}
+use Rattle.chunk_source.proofs.ReadingLeafLaws.{core_sized, each_overlap}
 use Rattle.chunk_source.proofs.ValidLaws.{sound_chunks, valid_chunks}
 use Rattle.logical_plan.specs.Meaning.{whole}
 use Rattle.logical_plan.specs.Typing.{AreSound}
@@ -39,7 +39,7 @@ use Rattle.changed_chunks.specs.Inner.Reach.{reach}
 use Rattle.changed_chunks.specs.Inner.Writes.{IsInsertOf, IsStoreOf, Serves}
 use Rattle.changed_chunks.specs.Wanted.{is_wanted, touched}
 use Rattle.changed_chunks.proofs.ChunkLaws.{all_both, kept_listed, kept_rise, sound_cores, stored_chunks}
-use Rattle.changed_chunks.proofs.Reach.{wanted_in_reach}
+use Rattle.changed_chunks.proofs.Reach.{held_wanted, wanted_in_reach}
 use Rattle.changed_chunks.proofs.Serves.{written_over}
 
 -- ---- the array of rows that may be stored
@@ -125,7 +125,7 @@ module _ (put : ChunkedArray) (can : CanBeStored put) (old : List Chunk) (stored
       all_both (λ chunk. AreRowsOf put.schema (chunk_rows put.schema.dimensions put.margins.items chunk)) put.chunks old (its_cells put can).rows_of
       (subst (λ (ms : List ℕ). HaveRows put.schema ms old) (sym can.margins) stored.rows_of)
 
-  abbrev over : List Row
+  abbrev pub over : List Row
   over = put_all (cores_of put) (stored_rows put.schema old)
 
   over_is : core_rows put.schema.dimensions put.margins.items (put.chunks ++ old) ≡ over
@@ -133,7 +133,7 @@ module _ (put : ChunkedArray) (can : CanBeStored put) (old : List Chunk) (stored
       core_rows-append put.schema.dimensions put.margins.items put.chunks old
       ∙ ap (λ (ms : List ℕ). put_all (cores_of put) (core_rows put.schema.dimensions ms old)) can.margins
 
-  over_may : MayBeStored put.schema over
+  pub over_may : MayBeStored put.schema over
   over_may = subst (MayBeStored put.schema) over_is (record {
     rows_of = cores_of_any put.schema put.margins.items (put.chunks ++ old) can.holds.rows_of.valid both_rows;
     sound = sound_cores put.schema put.margins.items (put.chunks ++ old) (all_both (HasSoundCells put.schema) put.chunks old (its_sound put can) stored.sound);
@@ -176,6 +176,12 @@ not_wanted dims rows number e = ap (λ (b : Bool). b && list_any (λ k. core_mee
 pub same_answer : (r : Result Bool Memory) (a b : Bool) → a ≡ b → IfOk r (λ x. x ≡ a) → IfOk r (λ x. x ≡ b)
 same_answer (Ok x) a b e is = is ∙ e
 same_answer (Err f) a b e is = tt
+
+-- a chunk of the array is wanted
+pub own_is_wanted : (put : ChunkedArray) → CanBeStored put → (number : ChunkNumber) → has_core put.schema.dimensions number ≡ true → is_listed number (numbers put.chunks) ≡ true → true ≡ is_wanted put.schema.dimensions (cores_of put) number
+own_is_wanted put can number cored listed =
+    let dims = put.schema.dimensions in
+    sym (held_wanted dims number (cores_of put) (valid_placed put.schema can.holds.rows_of.valid).near (each_overlap dims) cored (sym (can.holds.chunks.listed number (core_sized dims number cored)) ∙ listed))
 
 module _ (put : ChunkedArray) (can : CanBeStored put) where
   pub has_row : (area : Bounds) (rows : List Row) (none : Bool) → rows ≡ within area (cores_of put) → (none ≡ true) ↔ (rows ≡ []) → not none ≡ is_not_empty (within area (cores_of put))

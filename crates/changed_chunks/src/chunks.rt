@@ -1,5 +1,6 @@
 //! The chunks that a change writes.
 
+mod alone;
 mod changing;
 mod input;
 mod target;

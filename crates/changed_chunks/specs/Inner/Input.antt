@@ -12,7 +12,7 @@ use Rattle.array_rows.specs.Boxes.{bounds_of}
 use Rattle.array_geom.specs.declared.chunk.Chunk.{Chunk}
 use Rattle.array_geom.specs.declared.chunk.ChunkedArray.{ChunkedArray}
 use Rattle.array_geom.specs.Geometry.{overlaps}
-use Rattle.array_geom.specs.Link.{HoldsRows, chunk_rows, core_rows}
+use Rattle.array_geom.specs.Link.{HoldsRows, NumbersRise, chunk_rows, core_rows, numbers}
 use Rattle.array_parts.specs.Cores.{cores_of, meant_by_cores}
 use Rattle.array_parts.specs.Placed.{HasPlaces}
 use Rattle.logical_plan.specs.CellOps.{fit_rows}
@@ -45,9 +45,20 @@ pub record CanBeStored (array : ChunkedArray) : Type 0 where
   pub holds : HoldsRows array.schema array (cores_of array)
   pub sound : AreSound array.schema (cores_of array)
 
--- chunks as they are stored, in any order, whether or not the margins of one agree with the cores of others
+-- an array of the schema that can be stored
+pub record IsToStore (schema : Schema) (array : ChunkedArray) : Type 0 where
+  pub same : array.schema ≡ schema
+  pub can : CanBeStored array
+
+-- the rows of an array that is found, or its fault
+abbrev pub found_cores : Result ChunkedArray Broken → Result (List Row) Broken
+found_cores (Ok array) = Ok (cores_of array)
+found_cores (Err broken) = Err broken
+
+-- chunks as they are stored, by their rising numbers, whether or not the margins of one agree with the cores of others
 pub record AreStoredChunks (schema : Schema) (chunks : List Chunk) : Type 0 where
   pub valid : IsValid schema
+  pub rising : NumbersRise (numbers chunks)
   pub placed : AllByRecursion (HasPlaces schema (overlaps schema.dimensions)) chunks
   pub rows_of : AllByRecursion (λ chunk. AreRowsOf schema (chunk_rows schema.dimensions (overlaps schema.dimensions) chunk)) chunks
   pub sound : AllByRecursion (HasSoundCells schema) chunks

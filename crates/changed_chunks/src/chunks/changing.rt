@@ -140,7 +140,7 @@ fn inserted<S: ChunkSource, R: Threads + Sync, G: Gate>(
     ensures start { S.start source.new ≡ S.start source.old }
 {
     match input_of(rt, alloc, plan, schema, source, workers, session, gate)? {
-        Ok(input) => Ok(Ok(put_over_target(alloc, plan, schema, input, target, source, asking)?)),
+        Ok(put) => Ok(Ok(put_over_target(alloc, plan, &put, target, source, asking)?)),
         Err(broken) => Ok(Err(broken)),
     }
 }

@@ -7,16 +7,16 @@ ghost use Rattle.chunk_source.specs.Source.{AsksFront, IsChunkIn, IsStored, Keep
 ghost use Rattle.commit_pages.specs.Changes.{AreValid, IsOf};
 ghost use Rattle.logical_plan.specs.Leaves.{leaves};
 ghost use Rattle.logical_plan.specs.Meaning.{Database, version_rows};
-ghost use Rattle.changed_chunks.specs.Inner.Input.{AreStoredChunks, CanBeStored, MayBeStored, stored_rows};
+ghost use Rattle.changed_chunks.specs.Inner.Input.{AreStoredChunks, CanBeStored, stored_rows};
 ghost use Rattle.changed_chunks.specs.Inner.Writes.{IsInsertOf, Serves};
 ghost use Rattle.changed_chunks.specs.Targets.{asking_over, asking_put};
 ghost use Rattle.changed_chunks.specs.Wanted.{target_wanted};
 
-use crate::chunks::versions::{put_over, stored_array};
+use crate::chunks::versions::put_over;
 use crate::chunks::wanted::wanted_chunks;
 use crate::traces::{Asking, count_chunks};
 use array_geom::{Changed, Chunk, ChunkedArray};
-use cell_values::{ChunkAt, List, Memory, Row, Schema};
+use cell_values::{ChunkAt, List, Memory};
 use chunk_source::{ChunkSource, ExecFault};
 use logical_plan::{Leaf, Plan, reads};
 use std::alloc::Global;
@@ -122,38 +122,36 @@ fn put_over_leaf<S: ChunkSource>(
     Ok(put_over(put, old)?)
 }
 
-/// The chunks that are written where rows are put over the target, which is one more leaf after those of the plan. How many chunks of
-/// the target are asked for, and of how many, is put into `asking`.
+/// The chunks that are written where the rows of an array are put over the target, which is one more leaf after those of the plan.
+/// How many chunks of the target are asked for, and of how many, is put into `asking`.
 pub(crate) fn put_over_target<S: ChunkSource>(
     alloc: Global,
     plan: &Plan,
-    schema: &Schema,
-    input: List<Row>,
+    put: &ChunkedArray,
     target: &Leaf,
     source: &mut S,
     asking: &mut Asking,
 ) -> Result<Changed, ExecFault>
-    requires input { MayBeStored schema.now input }
+    requires put { CanBeStored put.now }
     requires reads { Reads (S.state source.old) target.now }
-    requires schema { target.now.schema ≡ schema.now }
-    ensures is_of { IfOk result (IsOf schema.now false) }
+    requires schema { put.now.schema ≡ target.now.schema }
+    ensures is_of { IfOk result (IsOf target.now.schema false) }
     ensures valid { IfOk result AreValid }
     ensures told { IfOk result (λ changed. (db : Database) → (S.state source.old).tells db
-        → IsInsertOf schema.now input (version_rows db target.now.name target.now.version) changed) }
+        → IsInsertOf target.now.schema (cores_of put.now) (version_rows db target.now.name target.now.version) changed) }
     ensures counted { IfOk result (λ changed. (db : Database) → (S.state source.old).tells db
-        → asking.new ≡ asking_put schema.now.dimensions input (version_rows db target.now.name target.now.version)) }
-    ensures over { IfOk result (λ changed. asking.new ≡ asking_over (S.state source.old) input target.now) }
+        → asking.new ≡ asking_put target.now.schema.dimensions (cores_of put.now) (version_rows db target.now.name target.now.version)) }
+    ensures over { IfOk result (λ changed. asking.new ≡ asking_over (S.state source.old) (cores_of put.now) target.now) }
     ensures asked { let old = S.state source.old in
-        let wanted = target_wanted schema.now.dimensions input (listed old target.now) in
+        let wanted = target_wanted target.now.schema.dimensions (cores_of put.now) (listed old target.now) in
         OnOk result ((S.state source.new).asked ≡ old.asked ++ map (asks (length (leaves plan.now))) wanted) }
     ensures front { let old = S.state source.old in
-        let wanted = target_wanted schema.now.dimensions input (listed old target.now) in
+        let wanted = target_wanted target.now.schema.dimensions (cores_of put.now) (listed old target.now) in
         OnErr result (AsksFront (map (asks (length (leaves plan.now))) wanted) old (S.state source.new)) }
     ensures kept { Keeps (S.state source.old) (S.state source.new) }
     ensures cause { Answers (S.state source.old) (S.state source.new) result }
     ensures start { S.start source.new ≡ S.start source.old }
 {
     let number = count_leaves(alloc, plan)?;
-    let put = stored_array(schema, input)?;
-    put_over_leaf(source, number, target, &put, asking)
+    put_over_leaf(source, number, target, put, asking)
 }

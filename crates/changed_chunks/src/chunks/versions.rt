@@ -11,6 +11,7 @@ ghost use Rattle.commit_pages.specs.Lengths.{meets};
 ghost use Rattle.changed_chunks.specs.Inner.Input.{AreStoredChunks, CanBeStored, MayBeStored, stored_rows};
 ghost use Rattle.changed_chunks.specs.Inner.Writes.{IsInsertOf, IsStoreOf};
 
+use crate::chunks::alone::{have_no_overlap, put_over_cores};
 use area_cells::rows_in_area;
 use array_geom::{Changed, Chunk, ChunkedArray, frame, margins_of};
 use cell_values::{Bounds, ChunkAt, List, Memory, Row, Schema, copy_numbers};
@@ -143,8 +144,8 @@ fn put_over_none(put: &ChunkedArray) -> Result<Changed, Memory>
     })
 }
 
-/// The chunks that are written where the rows of an array are put over those of stored chunks.
-pub(crate) fn put_over(put: &ChunkedArray, old: List<Chunk>) -> Result<Changed, Memory>
+/// The same where chunks have overlaps: by rows, since the margins of one are cells of others.
+fn put_over_rows(put: &ChunkedArray, old: List<Chunk>) -> Result<Changed, Memory>
     requires put { CanBeStored put.now }
     requires old { AreStoredChunks put.now.schema old }
     ensures { IfOk result (IsInsertOf put.now.schema (cores_of put.now) (stored_rows put.now.schema old)) }
@@ -155,4 +156,17 @@ pub(crate) fn put_over(put: &ChunkedArray, old: List<Chunk>) -> Result<Changed, 
     let rows = rows_over(put, old)?;
     let version = stored_array(&put.schema, rows)?;
     touched(put, version)
+}
+
+/// The chunks that are written where the rows of an array are put over those of stored chunks.
+pub(crate) fn put_over(put: &ChunkedArray, old: List<Chunk>) -> Result<Changed, Memory>
+    requires put { CanBeStored put.now }
+    requires old { AreStoredChunks put.now.schema old }
+    ensures { IfOk result (IsInsertOf put.now.schema (cores_of put.now) (stored_rows put.now.schema old)) }
+{
+    if have_no_overlap(put.schema.dimensions.as_slice()) {
+        put_over_cores(put, old.as_slice())
+    } else {
+        put_over_rows(put, old)
+    }
 }

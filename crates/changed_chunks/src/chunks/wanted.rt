@@ -1,11 +1,13 @@
 //! The chunks of its target that an insert wants.
-ghost use Rattle.std.specs.Prelude.{◌≡◌, IfOk};
+ghost use Rattle.std.specs.Prelude.{◌≡◌, IfOk, IsTrue};
 ghost use Rattle.array_geom.specs.Geometry.{HasFrame};
+ghost use Rattle.array_geom.specs.Link.{is_listed, numbers};
 ghost use Rattle.array_parts.specs.Cores.{cores_of};
 ghost use Rattle.changed_chunks.specs.Inner.Input.{CanBeStored};
 ghost use Rattle.changed_chunks.specs.Inner.Reach.{places_near, reach};
 ghost use Rattle.changed_chunks.specs.Wanted.{is_wanted, target_wanted};
 
+use crate::chunks::alone::order_of;
 use crate::chunks::versions::has_row_in;
 use area_cells::bounds_of;
 use array_geom::{Boxes, ChunkedArray, chunk_of, frame, has_core};
@@ -33,6 +35,18 @@ fn reach(schema: &Schema, margins: &Margins, number: &ChunkAt) -> Bounds
     Bounds { lo, hi }
 }
 
+/// Whether an array has a chunk of this number, whose core then holds a row.
+fn has_chunk(put: &ChunkedArray, number: &ChunkAt) -> bool
+    requires { CanBeStored put.now }
+    ensures { IsTrue result → IsTrue (is_listed number.now.items (numbers put.now.chunks)) }
+{
+    let chunks = put.chunks.as_slice();
+    match chunks.binary_search_by(|chunk| order_of(chunk, number)) {
+        Ok(_) => true,
+        Err(_) => false,
+    }
+}
+
 /// Whether a stored chunk is wanted where the rows of an array are put in.
 fn is_wanted(put: &ChunkedArray, number: &ChunkAt) -> Result<bool, Memory>
     requires { CanBeStored put.now }
@@ -40,6 +54,9 @@ fn is_wanted(put: &ChunkedArray, number: &ChunkAt) -> Result<bool, Memory>
 {
     if !has_core(&put.schema, number) {
         return Ok(false);
+    }
+    if has_chunk(put, number) {
+        return Ok(true);
     }
     let area = reach(&put.schema, &put.margins, number);
     has_row_in(put, &area)

@@ -7,7 +7,7 @@ use Rattle.chunk_source.proofs.ReadLemmas.{asked_none, on_err, keeps_on, reads_s
 use Rattle.chunk_source.proofs.ReadLaws.{wanted_among}
 use Rattle.changed_chunks.specs.Wanted.{is_wanted, target_wanted}
 use Rattle.changed_chunks.proofs.Asked.{asked_listed, front_listed}
-use Rattle.changed_chunks.proofs.ChunkLaws.{read_stored}
+use Rattle.changed_chunks.proofs.ChunkLaws.{read_stored, wanted_rising}
 use Rattle.changed_chunks.proofs.Counted.{asking_is, asking_listed, asking_told, whatever}
 use Rattle.changed_chunks.proofs.Serves.{read_serves}
 use Rattle.changed_chunks.proofs.chunks.target.read_wanted.Goals as goal
@@ -19,12 +19,16 @@ read_chunks-requires-clause-listed g c =
     c.in_ok-listed.ensures.kept c.in_ok-listed.ensures.listed (c.as_slice-3.ensures ∙ c.in_ok-wanted.ensures)
 
 pub returns-clause-stored : goal.returns-clause-stored
-returns-clause-stored g c = read_stored c.args.leaf.now c.as_slice-3.result.now c.read_chunks.result (subst IsValid c.requires.schema c.requires.put.holds.rows_of.valid) c.read_chunks.ensures.stored
+returns-clause-stored g c = read_stored c.args.leaf.now c.as_slice-3.result.now c.read_chunks.result (subst IsValid c.requires.schema c.requires.put.holds.rows_of.valid)
+    (wanted_rising (λ at. is_wanted c.args.put.now.schema.dimensions (cores_of c.args.put.now) at.items) c.in_ok-listed.listed c.as_slice-3.result.now (c.as_slice-3.ensures ∙ c.in_ok-wanted.ensures) c.in_ok-listed.ensures.rising)
+    c.read_chunks.ensures.stored
 
 pub returns-clause-told : goal.returns-clause-told
 returns-clause-told g c =
     let valid : IsValid c.args.leaf.now.schema = subst IsValid c.requires.schema c.requires.put.holds.rows_of.valid in
-    let are = read_stored c.args.leaf.now c.as_slice-3.result.now c.read_chunks.result valid c.read_chunks.ensures.stored in
+    let are = read_stored c.args.leaf.now c.as_slice-3.result.now c.read_chunks.result valid
+    (wanted_rising (λ at. is_wanted c.args.put.now.schema.dimensions (cores_of c.args.put.now) at.items) c.in_ok-listed.listed c.as_slice-3.result.now (c.as_slice-3.ensures ∙ c.in_ok-wanted.ensures) c.in_ok-listed.ensures.rising)
+    c.read_chunks.ensures.stored in
     read_serves (g.S.ChunkSource.state c.args.source.now) (g.S.ChunkSource.state c.listed.new.self) c.args.leaf.now (cores_of c.args.put.now) c.in_ok-listed.listed c.as_slice-3.result.now c.read_chunks.result
     (c.as_slice-3.ensures ∙ c.in_ok-wanted.ensures ∙ ap (λ (z : Schema). target_wanted z.dimensions (cores_of c.args.put.now) c.in_ok-listed.listed) c.requires.schema)
     c.in_ok-listed.ensures.kept (λ db t. c.in_ok-listed.ensures.told db t valid) c.read_chunks.ensures.stored are c.read_chunks.ensures.told
