@@ -1,6 +1,7 @@
 -- How the store of a run ends.
-use Rattle.std.specs.Prelude.{◌≡◌, ◌⊎◌, ℕ, false, List, [], ◌∷◌, ◌++◌, length}
+use Rattle.std.specs.Prelude.{◌≡◌, ◌⊎◌, ℕ, false, List, [], ◌∷◌, ◌++◌, length, IfSome}
 use Rattle.afl_outside.specs.Disk.{DiskGoesOn, Moment}
+use Rattle.array_store.specs.Kept.{HasFailed}
 use Rattle.array_store.specs.Starts.{start_of}
 use Rattle.event_core.specs.declared.entry.Entry.TheVariants.{Reap}
 use Rattle.event_core.specs.Legal.{IsOrdered}
@@ -41,6 +42,8 @@ pub record EndsWith {D S K : Type 0} (moment : D → Moment) (store : Standing D
   pub pages : run.free_pages ≡ length (unused_pages store.ledger)
   -- each page that nobody can name is free, or one more entry would pass the limit
   pub reaped : (run.notice ≡ Memory → ⊥) → reap_comes store.ledger ≡ false
+  -- a change is in doubt only where a call of the disk failed
+  pub doubt : IfSome store.doubt (λ _. HasFailed (moment store.opened.disk).state (moment store.disk).state)
   pub cells : (db : Database) → BeganAs (moment store.opened.disk).state db → HoldsHistory moment store db
   -- whatever the file stood for as it was opened, each image has each payload, whole or with the bytes of then
   pub payloads : (file : List ℕ) → HasTold (moment store.opened.disk).state file → (image : List ℕ) → (moment store.disk).may_leave image

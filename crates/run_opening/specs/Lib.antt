@@ -1,3 +1,4 @@
+pub use Rattle.array_store.specs.Kept
 pub use Rattle.array_store.specs.Starts
 pub use Rattle.array_store.specs.declared.store.start.Start
 pub mod Began

@@ -7,7 +7,7 @@ use Rattle.run_opening.proofs.stores.closing.close_store.Goals as goal
 pub returns-clause-closed : goal.returns-clause-closed
 returns-clause-closed g c =
     closed g.D.Disk.moment c.args.store c.told_after-notice.new.store c.free_pages.new.self _ c.told_after-notice.ensures.reaped c.free_pages.ensures.same
-    c.is_at.ensures.at c.is_at.ensures.ledger c.is_at.ensures.goes_on c.close-disk.ensures.disk c.close-disk.ensures.entries (c.from-free_pages.ensures ∙ c.free_pages.ensures.count)
+    c.is_at.ensures.at c.is_at.ensures.ledger c.is_at.ensures.goes_on c.is_at.ensures.doubt c.close-disk.ensures.disk c.close-disk.ensures.entries (c.from-free_pages.ensures ∙ c.free_pages.ensures.count)
 
 pub told_after-notice-requires : goal.told_after-notice-requires
 told_after-notice-requires g c = subst (λ l. length l ≤ 16) (sym c.as_slice.ensures) c.requires

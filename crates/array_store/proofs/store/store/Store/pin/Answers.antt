@@ -21,7 +21,7 @@ invariant_of-self g c =
     let parts = c.self.inside.parts in
     let s = standing moment parts in
     stays moment parts c.pin.new.parts c.self.invariant c.pin.ensures.at
-    (by_either s (with_entries (Pin c.args.session ∷ []) s) s (standing moment c.pin.new.parts) c.pin.result (record { opened = refl; disk = refl }) (unmoved s) c.pin.ensures.ok c.pin.ensures.err)
+    (by_either s (with_entries (Pin c.args.session ∷ []) s) s (standing moment c.pin.new.parts) c.pin.result (record { opened = refl; disk = refl; doubt = refl }) (unmoved s) c.pin.ensures.ok c.pin.ensures.err)
 
 pub returns-clause-kept : goal.returns-clause-kept
 returns-clause-kept g c =

@@ -60,4 +60,4 @@ invariant_of-self g c =
     (standing moment new) c.prepare.ensures.left in
     stays moment parts new c.self.invariant c.prepare.ensures.at
     (by_bool s (with_entries (Reap ∷ []) (tried_now session change s)) (tried_now session change s) (standing moment new) left.0
-    (record { opened = refl; disk = refl }) (record { opened = refl; disk = refl }) left.1)
+    (record { opened = refl; disk = refl; doubt = refl }) (record { opened = refl; disk = refl; doubt = refl }) left.1)

@@ -7,7 +7,7 @@ use Rattle.chunk_source.specs.Source.{IsChunkIn}
 use Rattle.page_chain.specs.Inner.Runs.{OnlyReads}
 use Rattle.plan_changes.specs.Databases.{Database, rows_of}
 use Rattle.array_store.proofs.Added.{adds_fault}
-use Rattle.array_store.proofs.Going.{moves}
+use Rattle.array_store.proofs.Going.{moves, same_doubt}
 use Rattle.array_store.proofs.store.store.Store.read_now.Goals as goal
 
 pub returns-clause-adds : goal.returns-clause-adds
@@ -36,6 +36,7 @@ pub invariant_of-self : goal.invariant_of-self
 invariant_of-self g c =
     let moment = g.D.Disk.moment in
     moves moment c.self.inside.parts c.read_now.new.parts c.self.invariant c.read_now.ensures.at (ap (λ s. s.opened) c.read_now.ensures.same) c.read_now.ensures.reads.same
+    (same_doubt (moment c.self.inside.parts.file.disk).state (moment c.read_now.new.parts.file.disk).state c.read_now.new.parts.doubt c.self.inside.parts.doubt (ap (λ s. s.doubt) c.read_now.ensures.same))
 
 pub returns-clause-reads : goal.returns-clause-reads
 returns-clause-reads g c =

@@ -19,7 +19,7 @@ invariant_of-self g c =
     let parts = c.self.inside.parts in
     let s = standing moment parts in
     stays moment parts c.reap.new.parts c.self.invariant c.reap.ensures.at
-    (by_choice s (with_entries (Reap ∷ []) s) s s (standing moment c.reap.new.parts) c.reap.result (record { opened = refl; disk = refl }) (unmoved s) (unmoved s)
+    (by_choice s (with_entries (Reap ∷ []) s) s s (standing moment c.reap.new.parts) c.reap.result (record { opened = refl; disk = refl; doubt = refl }) (unmoved s) (unmoved s)
     c.reap.ensures.ok c.reap.ensures.err)
 
 pub returns-clause-kept : goal.returns-clause-kept

@@ -1,4 +1,5 @@
-use Rattle.std.proofs.Common.{MatchResult, sym, subst}
+use Rattle.std.proofs.Common.{◌≡◌, length, MatchResult, refl, sym, subst}
+use Rattle.store_sealing.specs.Steps.{sealed}
 use Rattle.store_opening.specs.At.{standing}
 use Rattle.prepared_commits.specs.Prepared.{IsPreparedFor}
 use Rattle.store_sealing.proofs.SealingSealed.{HasCome}
@@ -7,7 +8,7 @@ use Rattle.array_store.specs.Sealing.{AddsCommit}
 use Rattle.array_store.proofs.Added.{is_counted}
 use Rattle.array_store.proofs.Sealed.{seal_adds}
 use Rattle.array_store.proofs.Stands.{seal_stands, same_opened}
-use Rattle.array_store.proofs.Going.{moves}
+use Rattle.array_store.proofs.Going.{moves, no_doubt, seal_doubt}
 use Rattle.array_store.proofs.store.store.Store.seal.Goals as goal
 
 pub seal-requires : goal.seal-requires
@@ -55,3 +56,5 @@ invariant_of-self g c =
     let parts = c.self.inside.parts in
     moves moment parts c.seal.new.parts c.self.invariant c.seal.ensures.at (same_opened moment parts c.seal.new.parts c.args.prepared c.seal.result c.seal.ensures.ok c.seal.ensures.err)
     c.seal.ensures.same
+    (seal_doubt (moment parts.file.disk) (moment c.seal.new.parts.file.disk) c.seal.new.parts.doubt parts.doubt c.seal.result (no_doubt c.seal.result (λ place. place ≡ length parts.ledger.entries)
+    (standing moment c.seal.new.parts) (sealed moment (standing moment parts) c.args.prepared c.seal.new.parts.ledger c.seal.new.parts.file.disk) c.seal.ensures.ok refl) c.seal.ensures.cause)

@@ -19,7 +19,7 @@ invariant_of-self g c =
     let moment = g.D.Disk.moment in
     let parts = c.self.inside.parts in
     stays moment parts c.unpin.new.parts c.self.invariant c.unpin.ensures.at
-    (subst (IsUnmoved (standing moment parts)) (sym c.unpin.ensures.unpinned) (record { opened = refl; disk = refl }))
+    (subst (IsUnmoved (standing moment parts)) (sym c.unpin.ensures.unpinned) (record { opened = refl; disk = refl; doubt = refl }))
 
 pub returns-clause-unpinned : goal.returns-clause-unpinned
 returns-clause-unpinned g c =
