@@ -1,5 +1,5 @@
 -- What checking a file answers.
-use Rattle.std.specs.Prelude.{◌≡◌, ℕ, ◌-◌, ◌^◌, min, Bool, true, false, ◌&&◌, if◌then◌else◌, List, [], ◌∷◌, length, slice_index, Option, None, Some, Result, Ok, Err}
+use Rattle.std.specs.Prelude.{◌≡◌, ℕ, ◌-◌, ◌^◌, min, Bool, true, false, ◌&&◌, List, [], ◌∷◌, length, slice_index, is_none, Result, Ok, Err, is_ok}
 use Rattle.std.specs.List.{sum_by}
 use Rattle.cell_values.specs.declared.datum.Row.{Row}
 use Rattle.cell_values.specs.declared.schema.Schema.{Schema}
@@ -33,15 +33,12 @@ abbrev pub each : {A : Type 0} → (A → Tested) → List A → Tested
 each test [] = Ok tt
 each test (x ∷ xs) = behind (test x) (each test xs)
 
+-- passed, or a fault
+abbrev pub or_fault : Bool → CheckFault → Tested
+or_fault true fault = Ok tt
+or_fault false fault = Err fault
+
 -- ---- a payload
-
-abbrev pub is_none : {A : Type 0} → Option A → Bool
-is_none None = true
-is_none (Some x) = false
-
-abbrev pub is_ok : {A B : Type 0} → Result A B → Bool
-is_ok (Ok x) = true
-is_ok (Err wrong) = false
 
 -- a payload is whole: its pages lie within the file, and its bytes spell a chunk of its number
 abbrev pub is_whole : List ℕ → Schema → DirEntry → Bool
@@ -50,12 +47,11 @@ is_whole file schema entry = is_none (first_past page_size file entry.pages)
 
 -- damage is told by the payload's first page
 abbrev pub test_payload : List ℕ → Schema → DirEntry → Tested
-test_payload file schema entry = if is_whole file schema entry then Ok tt else Err (Damaged (slice_index entry.pages 0))
+test_payload file schema entry = or_fault (is_whole file schema entry) (Damaged (slice_index entry.pages 0))
 
 -- its overlap holds its neighbours' cells: it is the one payload of its chunk that rows have
 abbrev pub test_overlap : List ℕ → Schema → List Row → DirEntry → Tested
-test_overlap file schema rows entry =
-    if is_its_payload schema rows (piece_in file entry) then Ok tt else Err (WrongOverlap (slice_index entry.pages 0))
+test_overlap file schema rows entry = or_fault (is_its_payload schema rows (piece_in file entry)) (WrongOverlap (slice_index entry.pages 0))
 
 -- ---- a version
 
