@@ -64,7 +64,6 @@ chunks_end file schema entries i chunks payloads past before = record {
 
 -- ---- numbers
 
-
 pub numbers_on : (entries : List DirEntry) (i : ℕ) (entry : DirEntry) (chunks chunks' : List Chunk) (chunk : Chunk) → i < length entries → entry ≡ get_or entries i entry → chunks' ≡ chunks ++ chunk ∷ [] → chunk.at ≡ entry.at
     → numbers chunks ≡ entry_numbers (take i entries) → numbers chunks' ≡ entry_numbers (take (i + 1) entries)
 numbers_on entries i entry chunks chunks' chunk low is pushed at before =
