@@ -31,32 +31,34 @@ use Rattle.array_geom.specs.Link as link
 
 -- ---- what passes
 
-record IsItsChunk (schema : Schema) (piece : Piece) : Type 0 where
-  stored : IsStored schema (chunk_of_piece schema piece)
-  number : (chunk_of_piece schema piece).at.items ≡ piece.at
+pub record IsItsChunk (schema : Schema) (piece : Piece) : Type 0 where
+  pub read : chunk_in schema piece.at piece.payload ≡ Ok (chunk_of_piece schema piece)
+  pub stored : IsStored schema (chunk_of_piece schema piece)
+  pub number : (chunk_of_piece schema piece).at.items ≡ piece.at
 
-its_chunk : (schema : Schema) (piece : Piece) → IsValid schema → AreBytes piece.payload → IsRead schema piece → IsItsChunk schema piece
+pub its_chunk : (schema : Schema) (piece : Piece) → IsValid schema → AreBytes piece.payload → IsRead schema piece → IsItsChunk schema piece
 its_chunk schema piece valid small r =
     let is : chunk_of_piece schema piece ≡ r.chunk = ap (chunk_or_none piece.at) r.read in
     record {
+      read = r.read ∙ ap Ok (sym is);
       stored = subst (IsStored schema) (sym is) (taken schema (record { items = piece.at }) piece.payload r.chunk valid r.core small r.read);
       number = ap (λ (c : Chunk). c.at.items) is ∙ ap (λ (at : ArrayVec ℕ). at.items) (taken_number schema (record { items = piece.at }) piece.payload r.chunk small r.read);
     }
 
-abbrev own_numbers : List Piece → List ChunkNumber
+abbrev pub own_numbers : List Piece → List ChunkNumber
 own_numbers pieces = map (λ (p : Piece). p.at) pieces
 
-chunks_stored : (schema : Schema) (pieces : List Piece) → IsValid schema → AreOfBytes pieces → AllByRecursion (IsRead schema) pieces → AllByRecursion (IsStored schema) (map (chunk_of_piece schema) pieces)
+pub chunks_stored : (schema : Schema) (pieces : List Piece) → IsValid schema → AreOfBytes pieces → AllByRecursion (IsRead schema) pieces → AllByRecursion (IsStored schema) (map (chunk_of_piece schema) pieces)
 chunks_stored schema [] valid small read = tt
 chunks_stored schema (p ∷ pieces) valid small read = ((its_chunk schema p valid small.0 read.0).stored, chunks_stored schema pieces valid small.1 read.1)
 
-chunk_numbers : (schema : Schema) (pieces : List Piece) → IsValid schema → AreOfBytes pieces → AllByRecursion (IsRead schema) pieces → link.numbers (map (chunk_of_piece schema) pieces) ≡ own_numbers pieces
+pub chunk_numbers : (schema : Schema) (pieces : List Piece) → IsValid schema → AreOfBytes pieces → AllByRecursion (IsRead schema) pieces → link.numbers (map (chunk_of_piece schema) pieces) ≡ own_numbers pieces
 chunk_numbers schema [] valid small read = refl
 chunk_numbers schema (p ∷ pieces) valid small read =
     ap (λ (k : ChunkNumber). k ∷ link.numbers (map (chunk_of_piece schema) pieces)) (its_chunk schema p valid small.0 read.0).number
     ∙ ap (λ (ks : List ChunkNumber). p.at ∷ ks) (chunk_numbers schema pieces valid small.1 read.1)
 
-entry_numbers : (file : List ℕ) (entries : List DirEntry) → own_numbers (map (piece_in file) entries) ≡ numbers entries
+pub entry_numbers : (file : List ℕ) (entries : List DirEntry) → own_numbers (map (piece_in file) entries) ≡ numbers entries
 entry_numbers file [] = refl
 entry_numbers file (e ∷ entries) = ap (λ (ks : List ChunkNumber). e.at.items ∷ ks) (entry_numbers file entries)
 
