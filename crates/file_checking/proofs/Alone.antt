@@ -40,7 +40,8 @@ use Rattle.backup_format.proofs.RisingNumbers.{same_itself}
 use Rattle.backup_meaning.proofs.Cores.{cores_rows}
 use Rattle.file_checking.specs.Checking.{AreOfBytes, IsRead}
 use Rattle.file_checking.specs.Inner.Steps.{has_overlaps}
-use Rattle.file_checking.proofs.Checked.{chunk_numbers, chunks_stored, its_chunk, own_numbers}
+use Rattle.backup_meaning.proofs.PieceRows.{own_numbers}
+use Rattle.file_checking.proofs.Checked.{chunk_numbers, chunks_stored, its_chunk}
 
 -- ---- frames without an overlap
 
