@@ -108,14 +108,14 @@ module _ (schema : Schema) (margins : List ℕ) where
   dims = schema.dimensions
 
   -- within the bounds, and of this chunk
-  abbrev IsOf : ChunkNumber → Row → Type 0
+  abbrev pub IsOf : ChunkNumber → Row → Type 0
   IsOf k row = (is_inside (bounds_of dims) row.at.items ≡ true) × (k ≡ chunk_of dims row.at.items)
 
   both_hold : {A : Type 0} (P Q : A → Type 0) (xs : List A) → AllByRecursion P xs → AllByRecursion Q xs → AllByRecursion (λ x. P x × Q x) xs
   both_hold P Q [] a b = tt
   both_hold P Q (x ∷ xs) a b = ((a.0, b.0), both_hold P Q xs a.1 b.1)
 
-  of_core : IsValid schema → (chunk : Chunk) → length chunk.at.items ≡ length dims → AreRowsOf schema (chunk_rows dims margins chunk) → AllByRecursion (IsOf chunk.at.items) (rows_of_core dims margins chunk)
+  pub of_core : IsValid schema → (chunk : Chunk) → length chunk.at.items ≡ length dims → AreRowsOf schema (chunk_rows dims margins chunk) → AllByRecursion (IsOf chunk.at.items) (rows_of_core dims margins chunk)
   of_core valid chunk l are =
       all_follows (λ row. (is_inside (core dims chunk.at.items) row.at.items ≡ true) × IsTrue (is_inside (bounds_of dims) row.at.items)) (IsOf chunk.at.items)
       (λ row h. (h.1, core_of dims chunk.at.items row.at.items (valid_placed schema valid).near l h.0)) (rows_of_core dims margins chunk)
@@ -123,10 +123,10 @@ module _ (schema : Schema) (margins : List ℕ) where
       (all_within (core dims chunk.at.items) (chunk_rows dims margins chunk) (rows_of_core dims margins chunk) refl)
       (all_kept (λ row. IsTrue (is_inside (bounds_of dims) row.at.items)) (λ row. is_inside (core dims chunk.at.items) row.at.items) (chunk_rows dims margins chunk) are.are_rows.in_bounds))
 
-  abbrev AreOf : List Chunk → Type 0
+  abbrev pub AreOf : List Chunk → Type 0
   AreOf = AllByRecursion (λ chunk. AreRowsOf schema (chunk_rows dims margins chunk))
 
-  abbrev Sized : List Chunk → Type 0
+  abbrev pub Sized : List Chunk → Type 0
   Sized chunks = AllByRecursion (λ k. length k ≡ length dims) (numbers chunks)
 
   -- the rows of later chunks
@@ -172,7 +172,7 @@ module _ (schema : Schema) (margins : List ℕ) where
   -- ---- the rows of one core among all
 
   -- no other chunk has a row there
-  none_elsewhere : IsValid schema → (c : Coordinate) (chunks : List Chunk) → Sized chunks → AreOf chunks → AllByRecursion (λ k. k ≡ chunk_of dims c → ⊥) (numbers chunks) → cell_at (by_chunk dims margins chunks) c ≡ None
+  pub none_elsewhere : IsValid schema → (c : Coordinate) (chunks : List Chunk) → Sized chunks → AreOf chunks → AllByRecursion (λ k. k ≡ chunk_of dims c → ⊥) (numbers chunks) → cell_at (by_chunk dims margins chunks) c ≡ None
   none_elsewhere valid c [] s are apart = refl
   none_elsewhere valid c (chunk ∷ chunks) s are apart =
       cell_at-append (rows_of_core dims margins chunk) (by_chunk dims margins chunks) c
@@ -183,7 +183,7 @@ module _ (schema : Schema) (margins : List ℕ) where
   at_end None = refl
   at_end (Some cell) = refl
 
-  not_itself : (k : ChunkNumber) → number_order k k ≡ Less → ⊥
+  pub not_itself : (k : ChunkNumber) → number_order k k ≡ Less → ⊥
   not_itself k e = let same : Less ≡ Equal = sym e ∙ tied_itself number_order_total k in cc
 
   -- at a place of its core a chunk has what all have

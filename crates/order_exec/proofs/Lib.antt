@@ -1,6 +1,8 @@
 pub mod AlongLaws
 pub mod ByChunkLaws
 pub mod CellLaws
+pub mod CountedLaws
+pub mod CountedSortLaws
 pub mod FewLaws
 pub mod FoundSortLaws
 pub mod GroupOrderLaws
@@ -17,3 +19,4 @@ pub mod SortLaws
 pub mod SortedRowsLaws
 pub mod SpanLaws
 pub mod TreeLaws
+pub mod TurnSortLaws

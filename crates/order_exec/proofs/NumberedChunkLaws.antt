@@ -10,7 +10,6 @@ use Rattle.std.specs.Ordering.{is_eq, nat_cmp, ordering_then}
 use Rattle.std.specs.declared.cmp.Ordering.TheVariants.{Less, Equal}
 use Rattle.cell_values.specs.declared.datum.Cell.{Cell}
 use Rattle.cell_values.specs.declared.datum.Row.{Row}
-use Rattle.cell_values.specs.declared.schema.Attribute.{Attribute}
 use Rattle.cell_values.specs.declared.schema.Dimension.{Dimension}
 use Rattle.cell_values.specs.declared.schema.Schema.{Schema}
 use Rattle.cell_values.specs.Schemas.{IsValid}
@@ -23,8 +22,7 @@ use Rattle.array_parts.specs.Made.{IsPlaced}
 use Rattle.array_parts.specs.Parts.{AreParts}
 use Rattle.array_parts.specs.Placed.{HasPlaces, HavePlaces}
 use Rattle.logical_plan.specs.Ordered.{numbered}
-use Rattle.logical_plan.specs.PlanSchema.{sort_dimension}
-use Rattle.order_exec.specs.declared.number_keys.Keyed.{Keyed}
+use Rattle.logical_plan.specs.ShapeSchemas.{counting}
 use Rattle.order_exec.proofs.AlongLaws.{all_joined}
 use Rattle.order_exec.proofs.NumberedLaws.{core_below, none_pass, within_frame}
 
@@ -70,8 +68,8 @@ first_listed (suc n) q l = list_any-append (λ k. is_eq (number_order k (q ∷ [
 
 -- ---- so many chunks so far
 
-pub record ChunksSoFar (dims : List Dimension) (target : Schema) (margins : List ℕ) (f : Keyed → Cell) (keyed rest : List Keyed) (number : ℕ) (chunks : List Chunk) : Type 0 where
-  pub front : List Keyed
+pub record ChunksSoFar (A : Type 0) (dims : List Dimension) (target : Schema) (margins : List ℕ) (f : A → Cell) (keyed rest : List A) (number : ℕ) (chunks : List Chunk) : Type 0 where
+  pub front : List A
   pub all : keyed ≡ front ++ rest
   pub few : length front ≤ number * 1000
   pub full : (length front ≡ number * 1000) ⊎ (rest ≡ [])
@@ -79,26 +77,26 @@ pub record ChunksSoFar (dims : List Dimension) (target : Schema) (margins : List
   pub places : AllByRecursion (HasPlaces target margins) chunks
   pub parts : AllByRecursion (IsPart dims margins (numbered 0 (map f keyed))) chunks
 
-module _ (attributes : List Attribute) (target : Schema) (margins : List ℕ) (e : target.dimensions ≡ sort_dimension attributes ∷ []) (m : margins ≡ 0 ∷ []) (valid : IsValid target) (f : Keyed → Cell) (keyed : List Keyed) (bounded : length keyed < 2 ^ 62) where
-  abbrev SoFar : List Keyed → ℕ → List Chunk → Type 0
-  SoFar = ChunksSoFar target.dimensions target margins f keyed
+module _ {A : Type 0} (name : List ℕ) (target : Schema) (margins : List ℕ) (e : target.dimensions ≡ counting name ∷ []) (m : margins ≡ 0 ∷ []) (valid : IsValid target) (f : A → Cell) (keyed : List A) (bounded : length keyed < 2 ^ 62) where
+  abbrev SoFar : List A → ℕ → List Chunk → Type 0
+  SoFar = ChunksSoFar A target.dimensions target margins f keyed
 
   framed : (q : ℕ) → q * 1000 < 2 ^ 62 → HasFrame target margins (q ∷ [])
   framed q l = record {
     valid = valid;
-    core = subst (λ (ds : List Dimension). IsTrue (has_core ds (q ∷ []))) (sym e) (ap (λ (b : Bool). b && true) (le_test (first_in (sort_dimension attributes) q) (pos 4611686018427387903) (omega (arith, ints, l))));
+    core = subst (λ (ds : List Dimension). IsTrue (has_core ds (q ∷ []))) (sym e) (ap (λ (b : Bool). b && true) (le_test (first_in (counting name) q) (pos 4611686018427387903) (omega (arith, ints, l))));
     each = ap (λ (ms : List ℕ). length ms) m ∙ sym (ap (λ (ds : List Dimension). length ds) e);
-    places = subst (λ (ds : List Dimension). volume (frame_lengths ds margins) ≤ 2 ^ 48) (sym e) (subst (λ (ms : List ℕ). volume (frame_lengths (sort_dimension attributes ∷ []) ms) ≤ 2 ^ 48) (sym m) (omega arith));
+    places = subst (λ (ds : List Dimension). volume (frame_lengths ds margins) ≤ 2 ^ 48) (sym e) (subst (λ (ms : List ℕ). volume (frame_lengths (counting name ∷ []) ms) ≤ 2 ^ 48) (sym m) (omega arith));
   }
 
-  pub one_more_chunk : (some rest others : List Keyed) (number : ℕ) (chunk : Chunk) (chunks more : List Chunk) → 0 < length rest → rest ≡ some ++ others → (length some ≡ 1000) ⊎ (others ≡ []) → length some ≤ 1000 → chunk.at.items ≡ number ∷ []
+  pub one_more_chunk : (some rest others : List A) (number : ℕ) (chunk : Chunk) (chunks more : List Chunk) → 0 < length rest → rest ≡ some ++ others → (length some ≡ 1000) ⊎ (others ≡ []) → length some ≤ 1000 → chunk.at.items ≡ number ∷ []
       → IsPlaced target.dimensions margins chunk → chunk_rows target.dimensions margins chunk ≡ numbered (number * 1000) (map f some) → more ≡ chunks ++ chunk ∷ [] → SoFar rest number chunks → SoFar others (number + 1) more
   one_more_chunk some rest others number chunk chunks more nonempty cut end short at placed rows pushed h =
       let whole : length h.front ≡ number * 1000 = front_full h.full in
       let long = length-append h.front some in
-      let all_of : keyed ≡ h.front ++ (some ++ others) = h.all ∙ ap (λ (ks : List Keyed). h.front ++ ks) cut in
+      let all_of : keyed ≡ h.front ++ (some ++ others) = h.all ∙ ap (λ (ks : List A). h.front ++ ks) cut in
       let few : number * 1000 < 2 ^ 62 =
-      let n = ap (λ (ks : List Keyed). length ks) h.all in
+      let n = ap (λ (ks : List A). length ks) h.all in
       let k = length-append h.front rest in
       omega (arith, n, k, whole, bounded) in
       let mapped : map f keyed ≡ map f h.front ++ (map f some ++ map f others) = ap (map f) all_of ∙ map-append f h.front (some ++ others) ∙ ap (λ (cs : List Cell). map f h.front ++ cs) (map-append f some others) in
@@ -106,7 +104,7 @@ module _ (attributes : List Attribute) (target : Schema) (margins : List ℕ) (e
       let some_long = length-map some f in
       let own : within (frame target.dimensions margins chunk.at.items) (numbered 0 (map f keyed)) ≡ numbered (number * 1000) (map f some) =
       (λ i. within (frame (e i) (m i) (at i)) (numbered 0 (mapped i)))
-      ∙ within_frame attributes number (map f h.front) (map f some) (map f others) (first_long ∙ whole) (omega (arith, some_long, short)) (mapped_end end) in
+      ∙ within_frame name number (map f h.front) (map f some) (map f others) (first_long ∙ whole) (omega (arith, some_long, short)) (mapped_end end) in
       record {
         front = h.front ++ some;
         all = all_of ∙ sym (append_assoc h.front some others);
@@ -121,7 +119,7 @@ module _ (attributes : List Attribute) (target : Schema) (margins : List ℕ) (e
     where
       front_full : (length h.front ≡ number * 1000) ⊎ (rest ≡ []) → length h.front ≡ number * 1000
       front_full (inl w) = w
-      front_full (inr w) = absurd (let n = ap (λ (ks : List Keyed). length ks) w in omega (arith, n, nonempty))
+      front_full (inr w) = absurd (let n = ap (λ (ks : List A). length ks) w in omega (arith, n, nonempty))
 
       mapped_end : (length some ≡ 1000) ⊎ (others ≡ []) → (length (map f some) ≡ 1000) ⊎ (map f others ≡ [])
       mapped_end (inl w) = inl (length-map some f ∙ w)
@@ -133,7 +131,7 @@ module _ (attributes : List Attribute) (target : Schema) (margins : List ℕ) (e
 
   -- ---- all chunks
 
-  pub all_places : (rest : List Keyed) (number : ℕ) (chunks : List Chunk) → SoFar rest number chunks → HavePlaces target margins chunks
+  pub all_places : (rest : List A) (number : ℕ) (chunks : List Chunk) → SoFar rest number chunks → HavePlaces target margins chunks
   all_places rest number chunks h = record {
     valid = valid;
     each = (framed 0 (omega arith)).each;
@@ -143,7 +141,7 @@ module _ (attributes : List Attribute) (target : Schema) (margins : List ℕ) (e
     all = h.places;
   }
 
-  pub all_parts : (rest : List Keyed) (number : ℕ) (chunks : List Chunk) → rest ≡ [] → SoFar rest number chunks → AreParts target.dimensions margins (numbered 0 (map f keyed)) chunks
+  pub all_parts : (rest : List A) (number : ℕ) (chunks : List Chunk) → rest ≡ [] → SoFar rest number chunks → AreParts target.dimensions margins (numbered 0 (map f keyed)) chunks
   all_parts rest number chunks none h = record {
     in_order = (all_places rest number chunks h).rising;
     sized = (all_places rest number chunks h).sized;
@@ -154,11 +152,11 @@ module _ (attributes : List Attribute) (target : Schema) (margins : List ℕ) (e
     where
       held : length keyed ≤ number * 1000
       held =
-          let n = ap (λ (ks : List Keyed). length ks) (h.all ∙ ap (λ (ks : List Keyed). h.front ++ ks) none ∙ append-nil h.front) in
+          let n = ap (λ (ks : List A). length ks) (h.all ∙ ap (λ (ks : List A). h.front ++ ks) none ∙ append-nil h.front) in
           let k = h.few in
           omega (arith, n, k)
 
-      listed : (k : ChunkNumber) → length k ≡ 1 → IsTrue (has_cell (sort_dimension attributes ∷ []) (numbered 0 (map f keyed)) k) → IsTrue (is_listed k (first_numbers number))
+      listed : (k : ChunkNumber) → length k ≡ 1 → IsTrue (has_cell (counting name ∷ []) (numbered 0 (map f keyed)) k) → IsTrue (is_listed k (first_numbers number))
       listed [] l has = absurd (omega (arith, l))
       listed (q ∷ p ∷ k) l has = absurd (omega (arith, l))
       listed (q ∷ []) l has = cases (cases_lt q number)
@@ -170,23 +168,23 @@ module _ (attributes : List Attribute) (target : Schema) (margins : List ℕ) (e
               long : length (map f keyed) ≡ length keyed
               long = length-map keyed f
 
-              nothing : within (core (sort_dimension attributes ∷ []) (q ∷ [])) (numbered 0 (map f keyed)) ≡ []
-              nothing = none_pass _ 0 (map f keyed) (λ n low high. core_below attributes q n (omega (arith, high, long, held, more)))
+              nothing : within (core (counting name ∷ []) (q ∷ [])) (numbered 0 (map f keyed)) ≡ []
+              nothing = none_pass _ 0 (map f keyed) (λ n low high. core_below name q n (omega (arith, high, long, held, more)))
 
-              empty : IsTrue (is_not_empty (within (core (sort_dimension attributes ∷ []) (q ∷ [])) (numbered 0 (map f keyed)))) → ⊥
+              empty : IsTrue (is_not_empty (within (core (counting name ∷ []) (q ∷ [])) (numbered 0 (map f keyed)))) → ⊥
               empty x = let y : IsTrue false = subst (λ (rows : List Row). IsTrue (is_not_empty rows)) nothing x in cc
 
 -- ---- where the rest is cut
 
-pub cut_at : (n : ℕ) (rest some others : List Keyed) → some ≡ take n rest → others ≡ drop n rest → rest ≡ some ++ others
-cut_at n rest some others e f = sym ((λ i. e i ++ f i) ∙ take-append-drop n rest)
+pub cut_at : {A : Type 0} (n : ℕ) (rest some others : List A) → some ≡ take n rest → others ≡ drop n rest → rest ≡ some ++ others
+cut_at {A = A} n rest some others e f = sym ((λ i. e i ++ f i) ∙ take-append-drop n rest)
 
-pub cut_length : (n : ℕ) (rest some others : List Keyed) → n ≡ min (length rest) 1000 → some ≡ take n rest → length some ≤ 1000
-cut_length n rest some others m e = let t = ap (λ (ks : List Keyed). length ks) e ∙ length-take n rest in omega (arith, t, m)
+pub cut_length : {A : Type 0} (n : ℕ) (rest some others : List A) → n ≡ min (length rest) 1000 → some ≡ take n rest → length some ≤ 1000
+cut_length {A = A} n rest some others m e = let t = ap (λ (ks : List A). length ks) e ∙ length-take n rest in omega (arith, t, m)
 
-pub cut_end : (n : ℕ) (rest some others : List Keyed) → n ≡ min (length rest) 1000 → some ≡ take n rest → others ≡ drop n rest → (length some ≡ 1000) ⊎ (others ≡ [])
-cut_end n rest some others m e f = cases (cases_lt (length rest) 1000)
+pub cut_end : {A : Type 0} (n : ℕ) (rest some others : List A) → n ≡ min (length rest) 1000 → some ≡ take n rest → others ≡ drop n rest → (length some ≡ 1000) ⊎ (others ≡ [])
+cut_end {A = A} n rest some others m e f = cases (cases_lt (length rest) 1000)
   where
     cases : (length rest < 1000) ⊎ (1000 ≤ length rest) → (length some ≡ 1000) ⊎ (others ≡ [])
-    cases (inl l) = inr (nil_from_length others (let t = ap (λ (ks : List Keyed). length ks) f ∙ length-drop n rest in omega (arith, t, m, l)))
-    cases (inr l) = inl (let t = ap (λ (ks : List Keyed). length ks) e ∙ length-take n rest in omega (arith, t, m, l))
+    cases (inl l) = inr (nil_from_length others (let t = ap (λ (ks : List A). length ks) f ∙ length-drop n rest in omega (arith, t, m, l)))
+    cases (inr l) = inl (let t = ap (λ (ks : List A). length ks) e ∙ length-take n rest in omega (arith, t, m, l))

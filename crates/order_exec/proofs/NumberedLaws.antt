@@ -6,7 +6,6 @@ use Rattle.std.proofs.lemmas.List.Elements.{filter-append}
 use Rattle.std.specs.Int.{int_min}
 use Rattle.cell_values.specs.declared.datum.Cell.{Cell}
 use Rattle.cell_values.specs.declared.datum.Row.{Row}
-use Rattle.cell_values.specs.declared.schema.Attribute.{Attribute}
 use Rattle.cell_values.specs.declared.schema.Dimension.{Dimension}
 use Rattle.array_rows.specs.Boxes.{is_inside, within}
 use Rattle.array_rows.specs.Rows.{Coordinate, placed, rows_where}
@@ -15,7 +14,7 @@ use Rattle.array_geom.specs.Link.{rows_in}
 use Rattle.array_geom.proofs.TestLaws.{and_both, le_from_test, le_test}
 use Rattle.array_parts.proofs.Lists.{rows_in-more}
 use Rattle.logical_plan.specs.Ordered.{numbered}
-use Rattle.logical_plan.specs.PlanSchema.{sort_dimension}
+use Rattle.logical_plan.specs.ShapeSchemas.{counting}
 
 -- ---- numbered cells
 
@@ -53,9 +52,9 @@ not_first a b e = ap (λ (x : Bool). (x && b) && true) e
 
 -- ---- chunks of 1000 numbers
 
-module _ (attributes : List Attribute) where
+module _ (name : List ℕ) where
   abbrev side : Dimension
-  side = sort_dimension attributes
+  side = counting name
 
   abbrev box_test : ℕ → Coordinate → Bool
   box_test q = is_inside (frame (side ∷ []) (0 ∷ []) (q ∷ []))

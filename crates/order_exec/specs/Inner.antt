@@ -1,4 +1,5 @@
 pub mod ByChunk
+pub mod Counted
 pub mod Hulls
 pub mod Keyed
 pub mod Ranked

@@ -16,9 +16,9 @@ use cell_values::{List, Memory, Row, Schema};
 use group_rows::rows_of_cores;
 
 /// The ranks of rows. More than can be numbered are as good as no memory.
-fn counted_ranks(attribute: u32, dims: &[u32], rows: &List<Row>) -> Result<List<Row>, Memory>
+fn counted_ranks(attribute: u32, dims: &[u32], rows: List<Row>) -> Result<List<Row>, Memory>
     requires { length dims.now ≤ 6 }
-    ensures { IfOk result (AreRanked attribute dims.now rows.now) }
+    ensures { IfOk result (AreRanked attribute dims.now rows) }
 {
     if rows.len() >= 1 << 62 {
         return Err(Memory);
@@ -44,7 +44,7 @@ pub fn rank(
     ensures margins { IfOk result (λ made. made.margins.items ≡ overlaps target.now.dimensions) }
 {
     let rows = rows_of_cores(array)?;
-    let ranked = counted_ranks(attribute, dims, &rows)?;
+    let ranked = counted_ranks(attribute, dims, rows)?;
     let margins = margins_of(target);
     assemble(target, &margins, ranked.as_slice())
 }

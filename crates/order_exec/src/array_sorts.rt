@@ -8,6 +8,7 @@ ghost use Rattle.logical_plan.specs.PlanSchema.{sort_schema};
 ghost use Rattle.order_exec.specs.Inner.Sorted.{AreSorted};
 ghost use Rattle.order_exec.specs.Meant.{sort_meant};
 
+use crate::counting_sorts::sorted_by_counts;
 use crate::number_sorts::sorted_by_number;
 use crate::sorted_cells::{first_unsortable, in_key_order, into_cells, numbered};
 use area_cells::{assemble, broken_array};
@@ -74,6 +75,9 @@ pub fn sort(
     ensures margins { IfOk result (λ made. made.margins.items ≡ overlaps target.now.dimensions) }
 {
     if let [key] = keys {
+        if let Some(sorted) = sorted_by_counts(&array, *key, target)? {
+            return Ok(sorted);
+        }
         if let Some(sorted) = sorted_by_number(rt, &array, *key, target)? {
             return Ok(sorted);
         }

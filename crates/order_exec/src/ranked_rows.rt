@@ -92,26 +92,26 @@ fn ranked_cell(
     }
 }
 
-/// Each row with the value of the attribute and its rank among the rows that agree with it in these dimensions.
+/// Each row with the value of the attribute and its rank among the rows that agree with it in these dimensions, in the row's place.
 pub(crate) fn ranked_rows(
     attribute: u32,
     dims: &[u32],
-    rows: &List<Row>,
+    rows: List<Row>,
 ) -> Result<List<Row>, Memory>
     requires { length dims.now ≤ 6 }
-    ensures { IfOk result (λ made. made ≡ rank_rows attribute dims.now rows.now) }
+    ensures { IfOk result (λ made. made ≡ rank_rows attribute dims.now rows) }
 {
     let alloc = rows.allocator();
     let faults = faults_of_groups(alloc, attribute, dims, rows.as_slice())?;
     let groups = values_of_groups(alloc, attribute, dims, rows.as_slice())?;
     let values = sorted_groups(alloc, groups)?;
-    let mut made = List::with_capacity(alloc, rows.len())?;
-    for row in rows.as_slice() {
+    let count = rows.len();
+    let mut made = rows;
+    for k in 0..count {
+        let row = &made[k];
+        let at = copy_coord(&row.at);
         let cell = ranked_cell(alloc, &values, &faults, attribute, dims, row)?;
-        made.push(Row {
-            at: copy_coord(&row.at),
-            cell,
-        })?;
+        made.set(k, Row { at, cell });
     }
     Ok(made)
 }

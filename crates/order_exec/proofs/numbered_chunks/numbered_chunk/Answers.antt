@@ -36,7 +36,7 @@ loop-place-preserved c =
       long = ap length pushed ∙ length-append c.loop-place.positions (k ∷ []) ∙ ap (λ (n : ℕ). n + 1) before.long;
       as_many = one_more c.loop-place.cells c.push_keyed.new.cells _ k c.in_ok-push_keyed.ensures before.as_many;
       below = subst (AllByRecursion (λ p. p < 1000)) (sym pushed) (all_joined (λ p. p < 1000) c.loop-place.positions (k ∷ []) before.below (omega (arith, inside, few), tt));
-      rows = one_numbered_place c.requires.target.0 c.args.target.now.dimensions c.args.margins.now.items c.requires.target.1 c.requires.margins c.args.number k c.loop-place.positions c.push-in-loop-place.new.self c.loop-place.cells
+      rows = one_numbered_place (sort_dimension c.requires.target.0).name c.args.target.now.dimensions c.args.margins.now.items c.requires.target.1 c.requires.margins c.args.number k c.loop-place.positions c.push-in-loop-place.new.self c.loop-place.cells
           c.push_keyed.new.cells (map f (take k keyed)) (map f (take (k + 1) keyed)) _ pushed c.in_ok-push_keyed.ensures (placed_cell (map found_cell found) keyed k _ inside) (omega (arith, taken, mapped, inside)) before.long before.as_many
           before.rows;
     }
