@@ -54,7 +54,7 @@ fn hull(a: &Bounds, b: &Bounds) -> Bounds
 }
 
 /// The least box with the cores of chunks, if there are any.
-pub(crate) fn box_of_cores(schema: &Schema, chunks: &[Chunk]) -> Option<Bounds>
+pub fn box_of_cores(schema: &Schema, chunks: &[Chunk]) -> Option<Bounds>
     requires valid { IsValid schema.now }
     requires cores { AllByRecursion (λ chunk. IsTrue (has_core schema.now.dimensions chunk.at.items)) chunks.now }
     ensures { IfSome result (λ area. AllByRecursion (λ chunk. Covers area (core schema.now.dimensions chunk.at.items)) chunks.now) }

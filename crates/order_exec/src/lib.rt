@@ -27,5 +27,7 @@ mod value_counts;
 pub use array_cumulates::cumulate;
 pub use array_ranks::rank;
 pub use array_sorts::sort;
+pub use core_hulls::box_of_cores;
 pub use group_rows::Group;
 pub use line_parts::{Lines, cumulate_chunk, join_lines, line_part};
+pub use number_sorts::grid_between;

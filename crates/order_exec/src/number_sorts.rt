@@ -46,7 +46,7 @@ fn push_spans(out: &mut Lengths, lo: &[i64], hi: &[i64], limit: u64) -> bool
 }
 
 /// A box as a grid, if it has few places enough.
-fn grid_between(area: &Bounds) -> Option<Grid>
+pub fn grid_between(area: &Bounds) -> Option<Grid>
     ensures grid { IfSome result IsGrid }
     ensures held { IfSome result (λ grid. (c : Coordinate) → is_inside area.now c ≡ true → is_in_grid grid.low.items grid.lengths.items c ≡ true) }
 {

@@ -48,18 +48,6 @@ none_filled grid all chunk positions cells = record {
   cells = ap (λ (ps : List ℕ). rows_in grid.low.items grid.lengths.items ps chunk.cells) positions;
 }
 
-pub one_filled : (grid : Grid) (all : List Found) (k : ℕ) (f : Found) (old new : Chunk) → k < length all → f ≡ get_or all k f → IsFilled grid.low.items grid.lengths.items (found_rows grid (take k all)) old
-    → ((rows : List Row) → IsFilled grid.low.items grid.lengths.items rows old → IsFilled grid.low.items grid.lengths.items (rows ++ found_row grid f ∷ []) new)
-    → IsFilled grid.low.items grid.lengths.items (found_rows grid (take (k + 1) all)) new
-one_filled grid all k f old new l e is more =
-    let same : found_rows grid (take (k + 1) all) ≡ found_rows grid (take k all) ++ found_row grid f ∷ [] =
-    ap (found_rows grid) (take_more all k f l) ∙ rows_append grid (take k all) (get_or all k f ∷ []) ∙ ap (λ (g : Found). found_rows grid (take k all) ++ found_row grid g ∷ []) (sym e) in
-    subst (λ (rs : List Row). IsFilled grid.low.items grid.lengths.items rs new) (sym same) (more (found_rows grid (take k all)) is)
-
-pub all_filled : (grid : Grid) (all entry : List Found) (k : ℕ) (chunk : Chunk) → length all ≤ k → all ≡ entry → IsFilled grid.low.items grid.lengths.items (found_rows grid (take k all)) chunk → IsFilled grid.low.items grid.lengths.items (found_rows grid entry) chunk
-all_filled grid all entry k chunk l e is =
-    subst (λ (fs : List Found). IsFilled grid.low.items grid.lengths.items (found_rows grid fs) chunk) (take_all k all l ∙ e) is
-
 -- ---- what is asked for
 
 pub held_by : (schema : Schema) (margins : List ℕ) (k : List ℕ) (grid : Grid) (area : Bounds) → HasFrame schema margins k → grid.low.items ≡ frame_low schema.dimensions margins k → grid.lengths.items ≡ frame_lengths schema.dimensions margins → area ≡ frame schema.dimensions margins k

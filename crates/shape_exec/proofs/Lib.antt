@@ -1,10 +1,14 @@
 pub mod BuildLaws
+pub mod BlockBoxes
 pub mod ConcatParts
 pub mod FoundChunks
+pub mod MergedCells
+pub mod NumberedCells
 pub mod NumberedLaws
 pub mod OrderLaws
 pub mod PairMeant
 pub mod PairParts
 pub mod PullParts
+pub mod SharedChunks
 pub mod SpreadLaws
 pub mod TurnLaws

@@ -40,14 +40,6 @@ use Rattle.shape_rows.proofs.PairLaws.{merged_over, merges_are_arrays}
 use Rattle.shape_exec.specs.Inner.Added.{AreListed, HaveReached, IsMove}
 use Rattle.shape_exec.proofs.PullParts.{listed_where, rows_reached}
 
--- ---- a chunk of both
-
-pub both_at : (schema : Schema) (margins : List ℕ) (l r : List Row) (number : ArrayVec ℕ) (above below made : Chunk) → HasFrame schema margins number.items → IsPartAt schema margins l number above → IsPartAt schema margins r number below
-    → made.at ≡ below.at → IsPart schema.dimensions margins (put_all l r) made → IsPartAt schema margins (put_all l r) number made
-both_at schema margins l r number above below made framed a b n part =
-    let same : made.at ≡ number = n ∙ b.number_is in
-    record { number_is = same; places = has_places schema margins number made framed same (record { each = part.each; in_frame = part.in_frame }); part = part }
-
 -- ---- numbers of both
 
 pub cores_of_both : (dims : List Dimension) (left right all : List (ArrayVec ℕ)) (r : Result (List (ArrayVec ℕ)) Memory) → all ≡ left ++ right → HaveCores dims left → HaveCores dims right

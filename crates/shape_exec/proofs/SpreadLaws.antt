@@ -1,20 +1,29 @@
 -- Cells at all places of their blocks.
-use Rattle.std.proofs.Common.{IsTrue, nat_le, ◌≡◌, ℕ, zero, suc, ◌+◌, ◌-◌, ◌*◌, ◌≤◌, ◌<◌, ◌^◌, ℤ, pos, negsuc, ◌+ℤ◌, ◌-ℤ◌, ◌≤ℤ◌, true, ◌&&◌, List, [], ◌∷◌, ◌++◌, append-nil, append_assoc, map, length, drop, take, min, None, Result, Ok, refl, sym, ap, ◌∙◌, subst, add-one, arith}
+use Rattle.std.proofs.Common.{IsTrue, nat_le, ◌≡◌, ℕ, zero, suc, ◌+◌, ◌-◌, ◌*◌, ◌≤◌, ◌<◌, ◌^◌, ℤ, pos, negsuc, ◌+ℤ◌, ◌-ℤ◌, ◌≤ℤ◌, true, ◌&&◌, List, [], ◌∷◌, ◌++◌, append-nil, append_assoc, map, length, drop, take, get_or, min, Some, None, Result, Ok, Err, refl, sym, ap, ◌∙◌, subst, add-one, arith}
 use Rattle.std.proofs.lemmas.Int.{ints}
-use Rattle.std.proofs.lemmas.List.{length-append, take_all}
+use Rattle.std.proofs.lemmas.List.{length-append, take_all, take_more}
 use Rattle.std.specs.Int.{w64, saturate_signed}
 use Rattle.std.specs.Int.RustNames.{FitsSigned}
 use Rattle.std.specs.List.{AllByRecursion, flat_map}
 use Rattle.std.specs.Prelude.{IfOk, int_le, slice_index_or, unsigned_abs}
+use Rattle.arrayvec.specs.ArrayVec.{ArrayVec}
 use Rattle.cell_values.specs.declared.datum.Cell.{Cell}
+use Rattle.cell_values.specs.declared.datum.Cell.TheVariants.{Full}
 use Rattle.cell_values.specs.declared.datum.Row.{Row}
 use Rattle.cell_values.specs.declared.memory.Memory.{Memory}
+use Rattle.cell_values.specs.declared.schema.Bounds.{Bounds}
 use Rattle.cell_values.specs.declared.schema.Dimension.{Dimension}
 use Rattle.cell_values.specs.declared.schema.Schema.{Schema}
 use Rattle.cell_values.specs.Schemas.{IsValid}
 use Rattle.array_rows.specs.Arrays.{AreRowsOf, Meant}
 use Rattle.array_rows.specs.Boxes.{bounds_of, by_pairs, is_inside}
-use Rattle.array_rows.specs.Rows.{Coordinate, in_order, placed}
+use Rattle.array_rows.specs.Rows.{Coordinate, cell_at, in_order, placed}
+use Rattle.array_rows.proofs.RowsLemmas.{cell_at-first}
+use Rattle.array_geom.specs.Geometry.{chunk_of}
+use Rattle.array_geom.specs.Link.{is_listed}
+use Rattle.chunk_cells.specs.Inner.Numbers.{numbers_in}
+use Rattle.exec_box.proofs.ReachLaws.{all_follow}
+use Rattle.order_exec.proofs.AlongLaws.{all_joined}
 use Rattle.array_geom.specs.declared.chunk.ChunkedArray.{ChunkedArray}
 use Rattle.array_geom.specs.Inner.Ranges.{AreNear}
 use Rattle.array_geom.specs.Link.{Is}
@@ -32,9 +41,10 @@ use Rattle.logical_plan.specs.Shapes.{block_of, blocks_back, first_place, last_p
 use Rattle.logical_plan.specs.Typing.{can_enlarge, enlarges, product_of}
 use Rattle.shape_rows.proofs.TypedLaws.{all_enlarge}
 use Rattle.shape_rows.proofs.BlockLaws.{fits_up, xgrid_pulled}
-use Rattle.shape_rows.proofs.PullLaws.{pulled_arrays}
+use Rattle.shape_rows.proofs.PullLaws.{place_holds}
 use Rattle.shape_exec.specs.declared.blocks.Part.{Part}
-use Rattle.shape_exec.specs.Inner.Spread.{block_part, parts_of, spread_all, spread_under}
+use Rattle.shape_exec.specs.Inner.Added.{AddsPlace, AddsPlaces}
+use Rattle.shape_exec.specs.Inner.Spread.{AddsRows, block_part, parts_of, spread_all, spread_under}
 
 -- a count at its limit gives the same
 pub far : (low : ℤ) (n : ℕ) → FitsSigned w64 low → saturate_signed w64 (low +ℤ pos (min n (2 ^ 64 - 1))) ≡ saturate_signed w64 (low +ℤ pos n)
@@ -162,29 +172,43 @@ one_spread dims sizes rows k row made new l is e f =
     ∙ ap (spread_all dims sizes) (sym (take_next rows k row l is))
     ∙ ap (λ (n : ℕ). spread_all dims sizes (take n rows)) (sym (add-one k))
 
--- ---- the array
+-- ---- the rows of blocks
 
-pub xgrid_is : (array : ChunkedArray) (schema source : Schema) (sizes : List ℕ) (rows spread made : List Row) → HaveCells array.schema array.margins.items array.chunks → IsValid schema → schema ≡ xgrid_schema sizes array.schema → AllEnlarge array.schema.dimensions sizes
-    → source ≡ array.schema → rows ≡ cores_of array → spread ≡ spread_all source.dimensions sizes rows → made ≡ in_order spread → made ≡ xgrid_rows array.schema.dimensions sizes (cores_of array)
-xgrid_is array schema source sizes rows spread made cells valid e en s f g h =
-    let near = (valid_placed array.schema cells.placed.valid).near in
-    let new = subst (λ (z : Schema). AreNear z.dimensions) e (valid_placed schema valid).near in
-    h ∙ ap in_order (g ∙ (λ i. spread_all (s i).dimensions sizes (f i)))
-    ∙ all_spread array.schema.dimensions sizes (cores_of array) near en new (cores_are_rows array.schema array.margins.items array.chunks cells).are_rows.in_bounds
+pub spread_pulled : (source schema : Schema) (sizes : List ℕ) (dims : List Dimension) (rows spread : List Row) (r : Result (List Row) Memory) → IsValid source → IsValid schema → AllEnlarge source.dimensions sizes
+    → schema.dimensions ≡ by_pairs enlarged source.dimensions sizes → dims ≡ source.dimensions → AllByRecursion (λ row. is_inside (bounds_of source.dimensions) row.at.items ≡ true) rows → spread ≡ spread_all dims sizes rows
+    → IfOk r (λ made. made ≡ in_order spread) → IfOk r (IsPulled (bounds_of schema.dimensions) (blocks_back source.dimensions sizes) rows)
+spread_pulled source schema sizes dims rows spread (Ok made) valid new en e f a g h =
+    let near = (valid_placed source valid).near in
+    let new_near = subst AreNear e (valid_placed schema new).near in
+    let same : made ≡ xgrid_rows source.dimensions sizes rows = h ∙ ap in_order (g ∙ ap (λ (ds : List Dimension). spread_all ds sizes rows) f) ∙ all_spread source.dimensions sizes rows near en new_near a in
+    subst (λ (ds : List Dimension). IsPulled (bounds_of ds) (blocks_back source.dimensions sizes) rows made) (sym e)
+    (subst (IsPulled (bounds_of (by_pairs enlarged source.dimensions sizes)) (blocks_back source.dimensions sizes) rows) (sym same) (xgrid_pulled source.dimensions sizes rows en a))
+spread_pulled source schema sizes dims rows spread (Err memory) valid new en e f a g h = tt
 
-pub xgrid_are : (array : ChunkedArray) (schema : Schema) (sizes : List ℕ) (made : List Row) → HaveCells array.schema array.margins.items array.chunks → IsValid schema → schema ≡ xgrid_schema sizes array.schema → AllEnlarge array.schema.dimensions sizes
-    → made ≡ xgrid_rows array.schema.dimensions sizes (cores_of array) → AreRowsOf schema made
-xgrid_are array schema sizes made cells valid e en m =
-    let are = cores_are_rows array.schema array.margins.items array.chunks cells in
-    subst (AreRowsOf schema) (sym m)
-    (pulled_arrays array.schema schema (blocks_back array.schema.dimensions sizes) (cores_of array) (xgrid_rows array.schema.dimensions sizes (cores_of array)) valid (ap (λ (s : Schema). s.attributes) e) are
-    (subst (λ (s : Schema). IsPulled (bounds_of s.dimensions) (blocks_back array.schema.dimensions sizes) (cores_of array) (xgrid_rows array.schema.dimensions sizes (cores_of array))) (sym e)
-    (xgrid_pulled array.schema.dimensions sizes (cores_of array) en are.are_rows.in_bounds)))
+-- ---- the chunks of the block of a place
 
-pub xgrid_told : (array : ChunkedArray) (schema : Schema) (sizes : List ℕ) (made : List Row) (r : Result ChunkedArray Memory) → array.broken ≡ None → schema ≡ xgrid_schema sizes array.schema → made ≡ xgrid_rows array.schema.dimensions sizes (cores_of array)
-    → IfOk r (λ z. Is z (record { schema = schema; rows = Ok made })) → IfOk r (λ z. Is z (xgrid_meant sizes (meant_by_cores array)))
-xgrid_told array schema sizes made r whole e m is =
-    subst (λ (z : Meant). IfOk r (λ a. Is a z)) (means_whole (xgrid_schema sizes) (λ s. xgrid_rows s.dimensions sizes) array schema made whole e m) is
+pub rows_more : (dims : List Dimension) (rows : List Row) (i : ℕ) (row : Row) (old found new : List (ArrayVec ℕ)) → i < length rows → row ≡ get_or rows i row → AddsRows dims (take i rows) old found → AddsPlace dims row.at.items found new
+    → AddsRows dims (take (i + 1) rows) old new
+rows_more dims rows i row old found new l e so_far adds =
+    let listed : Row → Type 0 = λ r. is_listed (chunk_of dims r.at.items) (numbers_in new) ≡ true in
+    record {
+      kept = λ k f. adds.kept k (so_far.kept k f);
+      cores = λ f. adds.cores (so_far.cores f);
+      reached = subst (AllByRecursion listed) (sym (take_more rows i row l ∙ ap (λ (r : Row). take i rows ++ r ∷ []) (sym e)))
+          (all_joined listed (take i rows) (row ∷ []) (all_follow (λ r. is_listed (chunk_of dims r.at.items) (numbers_in found) ≡ true) listed (λ r h. adds.kept (chunk_of dims r.at.items) h) (take i rows) so_far.reached) (adds.listed, tt));
+    }
+
+pub one_place : (target : List Dimension) (back : Coordinate → Coordinate) (at : Coordinate) (one made : List Row) → one ≡ placed at (Full []) ∷ [] → IsPulled (bounds_of target) back one made
+    → (y : Coordinate) → is_inside (bounds_of target) y ≡ true → back y ≡ at → cell_at made y ≡ Some (Full [])
+one_place target back at one made e is y inside b = is.cells y inside ∙ (λ i. cell_at (e i) (b i)) ∙ cell_at-first (placed at (Full [])) []
+
+pub place_added : (target : List Dimension) (back : Coordinate → Coordinate) (at : Coordinate) (rows : List Row) (old new : List (ArrayVec ℕ))
+    → ((y : Coordinate) → is_inside (bounds_of target) y ≡ true → back y ≡ at → cell_at rows y ≡ Some (Full [])) → AddsRows target rows old new → AddsPlaces target back at old new
+place_added target back at rows old new h adds = record {
+  kept = adds.kept;
+  reached = λ y inside b. place_holds (λ c. is_listed (chunk_of target c) (numbers_in new) ≡ true) rows y (Full []) adds.reached (h y inside b);
+  cores = adds.cores;
+}
 
 -- ---- parts that are pushed
 

@@ -9,6 +9,7 @@ mod coord_maps;
 mod found_chunks;
 mod mapped_arrays;
 mod merging;
+mod numbered_cells;
 mod pair_numbers;
 mod reversal;
 mod row_order;

@@ -1,50 +1,49 @@
 //! `merge`.
-ghost use Rattle.std.specs.Prelude.{◌≡◌, None, IsTrue, IfOk};
+ghost use Rattle.std.specs.Prelude.{◌≡◌, true, None, IsTrue, IfOk};
 ghost use Rattle.cell_values.specs.Schemas.{IsValid};
-ghost use Rattle.array_rows.specs.Rows.{put_all};
+ghost use Rattle.array_rows.specs.Boxes.{is_inside, within};
+ghost use Rattle.array_rows.specs.Rows.{Coordinate, IsRising, put_all};
 ghost use Rattle.array_geom.specs.Geometry.{HasFrame, overlaps};
+ghost use Rattle.array_geom.specs.Inner.Ranges.{IsGrid, is_in_grid};
 ghost use Rattle.array_geom.specs.Link.{Is};
 ghost use Rattle.array_parts.specs.Cores.{HasCells, HaveCells, cores_of, meant_by_cores};
+ghost use Rattle.area_cells.specs.Found.{AreFound, found_rows};
 ghost use Rattle.area_cells.specs.Pieces.{IsPartAt};
 ghost use Rattle.logical_plan.specs.ShapeMeant.{merge_meant};
 ghost use Rattle.logical_plan.specs.ShapeSchemas.{merge_schema};
 ghost use Rattle.logical_plan.specs.Typing.{merges};
 
-use crate::found_chunks::chunk_of_found;
+use crate::found_chunks::chunk_of_both_found;
 use crate::pair_numbers::{numbers_of_both, numbers_of_side};
 use afl_outside::Gate;
-use area_cells::{array_of_parts, found_in};
-use array_geom::{Chunk, ChunkedArray, frame, grid_of, margins_of};
-use cell_values::{ChunkAt, Margins, Memory, Schema};
-use chunk_cells::put_over;
+use area_cells::{Found, array_of_parts, found_in};
+use array_geom::{Chunk, ChunkedArray, Grid, frame, grid_of, margins_of};
+use cell_values::{Bounds, ChunkAt, List, Margins, Memory, Schema};
 use chunk_workers::{Crew, Work, over_pieces};
 use std::thread::Threads;
 
-/// A source's cells in the chunk of this number.
-fn chunk_of_side(
-    array: &ChunkedArray,
-    schema: &Schema,
-    margins: &Margins,
-    number: &ChunkAt,
-) -> Result<Chunk, Memory>
+/// A source's cells in a box, by their places in a grid that holds it.
+fn found_of_side<'a>(
+    array: &'a ChunkedArray,
+    area: &Bounds,
+    grid: &Grid,
+) -> Result<List<Found<'a>>, Memory>
     requires cells { HaveCells array.now.schema array.now.margins.items array.now.chunks }
-    requires framed { HasFrame schema.now margins.now.items number.now.items }
-    ensures { IfOk result (IsPartAt schema.now margins.now.items (cores_of array.now) number.now) }
+    requires grid { IsGrid grid.now }
+    requires held { (c : Coordinate) → is_inside area.now c ≡ true → is_in_grid grid.now.low.items grid.now.lengths.items c ≡ true }
+    ensures found { IfOk result (AreFound grid.now (within area.now (cores_of array.now))) }
+    ensures rise { IfOk result (λ found. IsRising (found_rows grid.now found)) }
 {
-    let area = frame(schema, margins, number);
-    let grid = grid_of(schema, margins, number);
-    let found = found_in(
+    found_in(
         &array.schema,
         &array.margins,
         array.chunks.as_slice(),
-        &area,
-        &grid,
-    )?;
-    let made = chunk_of_found(number, &grid, found)?;
-    Ok(made)
+        area,
+        grid,
+    )
 }
 
-/// The merged chunk of this number: the left's cells put over the right's.
+/// The merged chunk of this number: the left's cells, and the right's where the left has none.
 fn chunk_of_both(
     left: &ChunkedArray,
     right: &ChunkedArray,
@@ -57,9 +56,11 @@ fn chunk_of_both(
     requires framed { HasFrame schema.now margins.now.items number.now.items }
     ensures { IfOk result (IsPartAt schema.now margins.now.items (put_all (cores_of left.now) (cores_of right.now)) number.now) }
 {
-    let above = chunk_of_side(left, schema, margins, number)?;
-    let below = chunk_of_side(right, schema, margins, number)?;
-    let made = put_over(&below, &above)?;
+    let area = frame(schema, margins, number);
+    let grid = grid_of(schema, margins, number);
+    let above = found_of_side(left, &area, &grid)?;
+    let below = found_of_side(right, &area, &grid)?;
+    let made = chunk_of_both_found(number, &grid, above, below)?;
     Ok(made)
 }
 

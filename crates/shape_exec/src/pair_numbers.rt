@@ -1,5 +1,5 @@
 //! What `merge` and `concat` share: the numbers of the chunks of both sources, and cells that stay.
-ghost use Rattle.std.specs.Prelude.{◌≡◌, true, List as Items, IfOk};
+ghost use Rattle.std.specs.Prelude.{◌≡◌, true, List as Items, IsTrue, IfOk};
 ghost use Rattle.std.specs.List.{AllByRecursion};
 ghost use Rattle.array_rows.specs.Boxes.{bounds_of, is_inside};
 ghost use Rattle.array_rows.specs.Rows.{Coordinate};
@@ -10,11 +10,13 @@ ghost use Rattle.cell_values.specs.declared.schema.Dimension.{Dimension as Along
 ghost use Rattle.cell_values.specs.Schemas.{IsValid};
 ghost use Rattle.chunk_cells.specs.Inner.Numbers.{numbers_in};
 ghost use Rattle.exec_box.specs.Inner.Reached.{HaveCores};
+ghost use Rattle.shape_exec.specs.Inner.Merged.{ShareChunks};
 
 use crate::chunk_numbers::numbers_reached;
 use crate::coord_maps::{ByCoords, CoordMap};
+use area_cells::numbers_of;
 use array_geom::ChunkedArray;
-use cell_values::{Bounds, ChunkAt, Coord, List, Memory, Schema, copy_coord};
+use cell_values::{Bounds, ChunkAt, Coord, Dimension, List, Memory, Schema, copy_coord};
 use exec_box::in_order;
 
 /// The numbers of two lists in rising order.
@@ -62,6 +64,24 @@ impl CoordMap for Identity<'_> {
     }
 }
 
+/// Whether each chunk of the one dimensions is that of the same number of the others, as far as these reach.
+fn share_chunks(source: &[Dimension], target: &[Dimension]) -> bool
+    ensures { IsTrue result → ShareChunks source.now target.now }
+{
+    match source {
+        [] => target.is_empty(),
+        [s, source @ ..] => match target {
+            [] => false,
+            [t, target @ ..] => {
+                if s.lo != t.lo || s.chunk != t.chunk || t.hi < s.hi {
+                    return false;
+                }
+                share_chunks(source, target)
+            }
+        },
+    }
+}
+
 /// The numbers of the chunks into which the cells of an array come that stay where they are.
 pub(crate) fn numbers_of_side(
     array: &ChunkedArray,
@@ -73,6 +93,11 @@ pub(crate) fn numbers_of_side(
     ensures cores { IfOk result (HaveCores schema.now.dimensions) }
     ensures listed { IfOk result (λ found. AllByRecursion (λ row. is_listed (chunk_of schema.now.dimensions row.at.items) (numbers_in found) ≡ true) (cores_of array.now)) }
 {
+    let source = array.schema.dimensions.as_slice();
+    let target = schema.dimensions.as_slice();
+    if share_chunks(source, target) {
+        return numbers_of(&array.chunks);
+    }
     let by = Identity {
         source: &array.schema,
         target: schema,

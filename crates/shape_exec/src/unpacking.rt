@@ -13,21 +13,10 @@ ghost use Rattle.logical_plan.specs.Shapes.{unpack_rows};
 ghost use Rattle.logical_plan.specs.Typing.{first_name};
 ghost use Rattle.shape_exec.specs.Inner.Unpacked.{Unpacks};
 
+use crate::numbered_cells::{unpacked_by_places, with_numbers};
 use array_geom::{ChunkedArray, margins_of};
 use cell_values::{Broken, Cell, Coord, Datum, List, Memory, Row, Schema};
 use chunk_cells::{assemble, broken_array, into_core_rows};
-
-/// The numbers of a coordinate, and values behind them.
-fn with_numbers(at: &Coord, values: List<Datum>) -> Result<List<Datum>, Memory>
-    ensures { IfOk result (λ all. all ≡ map Int at.now.items ++ values) }
-{
-    let mut all = values.another();
-    for number in at.as_slice() {
-        all.push(Datum::Int(*number))?;
-    }
-    all.append(values)?;
-    Ok(all)
-}
 
 /// The row of a number.
 fn numbered_row(number: u64, at: &Coord, values: List<Datum>) -> Result<Row, Memory>
@@ -87,9 +76,9 @@ fn rows_to_number(array: ChunkedArray) -> Result<List<Row>, Memory>
     Ok(rows)
 }
 
-/// The unpacked array of one that is not broken.
+/// The unpacked array of one that is not broken, by a list of its rows.
 #[tactic(auto, using(array_geom::proofs::MarginLaws::overlap_each, array_geom::proofs::MarginLaws::overlap_places))]
-fn of_whole(array: ChunkedArray, target: &Schema) -> Result<ChunkedArray, Memory>
+fn unpacked_by_rows(array: ChunkedArray, target: &Schema) -> Result<ChunkedArray, Memory>
     requires whole { array.broken ≡ None }
     requires cells { HaveCells array.schema array.margins.items array.chunks }
     requires target { target.now ≡ unpack_schema (first_name target.now.dimensions) array.schema }
@@ -101,6 +90,21 @@ fn of_whole(array: ChunkedArray, target: &Schema) -> Result<ChunkedArray, Memory
     match unpacked_rows(rows)? {
         Ok(rows) => assemble(target, &margins_of(target), rows.as_slice()),
         Err(broken) => broken_array(target, &margins_of(target), &broken),
+    }
+}
+
+/// The unpacked array of one that is not broken.
+fn of_whole(array: ChunkedArray, target: &Schema) -> Result<ChunkedArray, Memory>
+    requires whole { array.broken ≡ None }
+    requires cells { HaveCells array.schema array.margins.items array.chunks }
+    requires target { target.now ≡ unpack_schema (first_name target.now.dimensions) array.schema }
+    requires valid { IsValid target.now }
+    ensures array { IfOk result (λ made. Is made (unpack_meant target.now (meant_by_cores array))) }
+    ensures margins { IfOk result (λ made. made.margins.items ≡ overlaps target.now.dimensions) }
+{
+    match unpacked_by_places(&array, target)? {
+        Some(made) => Ok(made),
+        None => unpacked_by_rows(array, target),
     }
 }
 

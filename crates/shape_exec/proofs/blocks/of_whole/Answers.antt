@@ -1,21 +1,25 @@
-use Rattle.std.proofs.Common.{List, ap, ◌∙◌}
-use Rattle.cell_values.specs.declared.schema.Dimension.{Dimension}
-use Rattle.exec_box.proofs.ArraysMadeLaws.{rise_in_cores}
-use Rattle.shape_exec.specs.Inner.Spread.{spread_all}
-use Rattle.shape_exec.proofs.SpreadLaws.{xgrid_are, xgrid_is, xgrid_told}
+use Rattle.std.proofs.Common.{refl, sym, ap, subst}
+use Rattle.cell_values.specs.declared.schema.Schema.{Schema}
+use Rattle.array_rows.specs.Boxes.{bounds_of}
+use Rattle.array_parts.specs.Cores.{cores_of}
+use Rattle.array_parts.proofs.CoreLaws.{cores_are_rows}
+use Rattle.exec_box.proofs.ArraysMadeLaws.{means_whole, stands_for}
+use Rattle.shape_rows.specs.Pulls.{IsPulled}
+use Rattle.shape_rows.proofs.BlockLaws.{xgrid_pulled}
+use Rattle.logical_plan.specs.ShapeSchemas.{xgrid_schema}
+use Rattle.logical_plan.specs.Shapes.{blocks_back, xgrid_rows}
 use Rattle.shape_exec.proofs.blocks.of_whole.Goals as goal
 
-pub into_core_rows-requires-clause-rise : goal.into_core_rows-requires-clause-rise
-into_core_rows-requires-clause-rise c = rise_in_cores c.args.array.schema c.args.array.margins.items c.args.array.chunks c.requires.cells
-
-pub assemble-requires-clause-rows : goal.assemble-requires-clause-rows
-assemble-requires-clause-rows c =
-    let same = xgrid_is c.args.array c.args.target.now c.in_ok-source.source c.args.sizes.now c.in_ok-rows.rows c.in_ok-spread.spread c.in_ok-made.made c.requires.cells c.requires.valid c.requires.target c.requires.blocks c.in_ok-source.ensures c.in_ok-rows.ensures
-    (c.in_ok-spread.ensures ∙ ap (λ (ds : List Dimension). spread_all ds c.args.sizes.now c.in_ok-rows.rows) c.as_slice.ensures) c.in_ok-made.ensures in
-    xgrid_are c.args.array c.args.target.now c.args.sizes.now c.as_slice-2.result.now c.requires.cells c.requires.valid c.requires.target c.requires.blocks (c.as_slice-2.ensures ∙ same)
+pub mapped_array-requires-clause-sound : goal.mapped_array-requires-clause-sound
+mapped_array-requires-clause-sound g c κs lives = (c.requires.cells.placed.valid, c.requires.valid, c.requires.blocks, ap (λ (s : Schema). s.dimensions) c.requires.target)
 
 pub returns-clause-array : goal.returns-clause-array
-returns-clause-array c =
-    let same = xgrid_is c.args.array c.args.target.now c.in_ok-source.source c.args.sizes.now c.in_ok-rows.rows c.in_ok-spread.spread c.in_ok-made.made c.requires.cells c.requires.valid c.requires.target c.requires.blocks c.in_ok-source.ensures c.in_ok-rows.ensures
-    (c.in_ok-spread.ensures ∙ ap (λ (ds : List Dimension). spread_all ds c.args.sizes.now c.in_ok-rows.rows) c.as_slice.ensures) c.in_ok-made.ensures in
-    xgrid_told c.args.array c.args.target.now c.args.sizes.now c.as_slice-2.result.now c.assemble.result c.requires.whole c.requires.target (c.as_slice-2.ensures ∙ same) c.assemble.ensures.array
+returns-clause-array g c =
+    let array = c.args.array.now in
+    let sizes = c.args.sizes.now in
+    let back = blocks_back array.schema.dimensions sizes in
+    let rows = xgrid_rows array.schema.dimensions sizes (cores_of array) in
+    stands_for c.mapped_array.result _ _ (means_whole (xgrid_schema sizes) (λ s. xgrid_rows s.dimensions sizes) array c.args.target.now rows c.requires.whole c.requires.target refl)
+    (c.mapped_array.ensures.array rows
+    (subst (λ (s : Schema). IsPulled (bounds_of s.dimensions) back (cores_of array) rows) (sym c.requires.target)
+    (xgrid_pulled array.schema.dimensions sizes (cores_of array) c.requires.blocks (cores_are_rows array.schema array.margins.items array.chunks c.requires.cells).are_rows.in_bounds)))

@@ -3,7 +3,7 @@ use Rattle.cell_values.specs.declared.datum.Row.{Row}
 use Rattle.array_rows.specs.Arrays.{AreRowsOf}
 use Rattle.logical_plan.specs.Typing.{first_name}
 use Rattle.shape_exec.proofs.NumberedLaws.{unpack_doubt, unpack_whole, unpacked_are}
-use Rattle.shape_exec.proofs.unpacking.of_whole.Goals as goal
+use Rattle.shape_exec.proofs.unpacking.unpacked_by_rows.Goals as goal
 
 pub assemble-requires-clause-rows : goal.assemble-requires-clause-rows
 assemble-requires-clause-rows c =
