@@ -1,13 +1,14 @@
 -- The best of values to which others come.
-use Rattle.std.proofs.Common.{◌≡◌, Bool, true, false, not, ◌&&◌, cond, List, [], ◌∷◌, ◌++◌, length, Option, Some, None, refl, sym, ap, ◌∙◌, subst, inl, inr}
+use Rattle.std.proofs.Common.{◌≡◌, ℤ, Bool, true, false, not, ◌&&◌, cond, List, [], ◌∷◌, ◌++◌, length, Option, Some, None, refl, sym, ap, ◌∙◌, subst, inl, inr}
 use Rattle.std.proofs.lemmas.List.{append-nil}
 use Rattle.std.proofs.lemmas.Cmp.{upto, tied_itself, nat_list_cmp_total, int_cmp_total, on_total, then_total, back_total}
 use Rattle.std.specs.Cmp.{IsTotalOrder}
 use Rattle.std.specs.List.{AllByRecursion}
 use Rattle.std.specs.declared.cmp.Ordering.{Ordering}
 use Rattle.std.specs.declared.cmp.Ordering.TheVariants.{Less, Equal, Greater}
-use Rattle.std.specs.Ordering.{is_lt, is_gt, ordering_reverse, flip_args}
+use Rattle.std.specs.Ordering.{is_lt, is_gt, int_cmp, ordering_reverse, ordering_then, flip_args}
 use Rattle.cell_values.specs.declared.datum.Datum.{Datum}
+use Rattle.cell_values.specs.declared.datum.Datum.TheVariants.{Int}
 use Rattle.cell_values.specs.Nulls.{is_null}
 use Rattle.logical_plan.specs.declared.parts.AggFunction.{AggFunction}
 use Rattle.logical_plan.specs.declared.parts.AggFunction.TheVariants.{Sum, Count, CountAll, Min, Max}
@@ -18,6 +19,15 @@ use Rattle.agg_states.proofs.Reorderings.{Reordered, length-reordered, all-reord
 
 pub value_order_total : IsTotalOrder value_order
 value_order_total = then_total (on_total number_of int_cmp_total) (on_total text_of nat_list_cmp_total)
+
+then_equal : (o : Ordering) → o ≡ ordering_then o Equal
+then_equal Less = refl
+then_equal Equal = refl
+then_equal Greater = refl
+
+-- of two numbers the texts, which are empty, decide nothing
+pub numbers_by_size : (x y : ℤ) → int_cmp x y ≡ value_order (Int x) (Int y)
+numbers_by_size x y = then_equal (int_cmp x y)
 
 turned : (o : Ordering) → is_lt (ordering_reverse o) ≡ is_gt o
 turned Less = refl

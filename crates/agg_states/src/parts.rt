@@ -72,13 +72,27 @@ fn text_of(value: &Datum) -> &[u8]
     }
 }
 
-/// The order of values: of numbers by size, of texts by their bytes.
-fn value_order(a: &Datum, b: &Datum) -> Ordering
+/// The order of values that need not be numbers.
+fn general_order(a: &Datum, b: &Datum) -> Ordering
     ensures { result ≡ value_order a.now b.now }
 {
     number_of(a)
         .cmp(&number_of(b))
         .then(text_of(a).cmp(text_of(b)))
+}
+
+/// The order of values: of numbers by size, of texts by their bytes.
+#[tactic(auto, using(crate::proofs::BestLaws::numbers_by_size))]
+fn value_order(a: &Datum, b: &Datum) -> Ordering
+    ensures { result ≡ value_order a.now b.now }
+{
+    match a {
+        Datum::Int(x) => match b {
+            Datum::Int(y) => x.cmp(y),
+            _ => general_order(a, b),
+        },
+        _ => general_order(a, b),
+    }
 }
 
 /// Whether a value is wanted rather than another.

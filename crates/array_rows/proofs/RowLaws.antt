@@ -1,11 +1,12 @@
 -- Rows in columns to which values are added.
 use Rattle.std.proofs.Common.{◌≡◌, ℕ, zero, suc, ◌+◌, ◌<◌, ◌≤◌, List, [], ◌∷◌, ◌++◌, length, get_or, set, take, refl, sym, ap, ◌∙◌, subst, arith, add-one, ◌⊎◌, inl, inr, Result, Ok, Err, IfOk}
-use Rattle.std.proofs.lemmas.List.{get_or_append_left, get_or_push, length-append, length-map}
+use Rattle.std.proofs.lemmas.List.{get_or_append_left, get_or_push, length-append, length-map, map-append}
 use Rattle.std.proofs.lemmas.Bool.{cases_lt}
 use Rattle.cell_values.specs.declared.memory.Memory.{Memory}
 use Rattle.std.specs.Prelude.{slice_index_or, OnOk}
 use Rattle.cell_values.specs.declared.datum.Datum.{Datum}
 use Rattle.cell_values.specs.declared.datum.Datum.TheVariants.{Null}
+use Rattle.array_rows.specs.Boxes.{by_pairs}
 use Rattle.array_rows.specs.RowsIn.{row_at, rows_in, pushed, AreLong}
 
 pub length_more : {A : Type 0} (xs : List A) (x : A) → length (xs ++ x ∷ []) ≡ suc (length xs)
@@ -149,3 +150,38 @@ push_further cs now then vs n k v l e f g = push_step cs now then vs (n + k) v l
   where
     further : (n k : ℕ) → n + k + 1 ≡ n + (k + 1)
     further n k = omega arith
+
+-- ---- columns of others behind the columns
+
+pub all_long : (n : ℕ) (a b : List (List Datum)) → AreLong n a → AreLong n b → AreLong n (a ++ b)
+all_long n [] b h k = k
+all_long n (c ∷ a) b h k = (h.0, all_long n a b h.1 k)
+
+pairs_pushed : {A B C : Type 0} (f : A → B → C) (xs : List A) (ys : List B) (x : A) (y : B) → length xs ≡ length ys → by_pairs f (xs ++ x ∷ []) (ys ++ y ∷ []) ≡ by_pairs f xs ys ++ f x y ∷ []
+pairs_pushed f [] [] x y e = refl
+pairs_pushed f [] (w ∷ ys) x y e = absurd (omega (arith, e))
+pairs_pushed f (v ∷ xs) [] x y e = absurd (omega (arith, e))
+pairs_pushed {C = C} f (v ∷ xs) (w ∷ ys) x y e = ap (λ (zs : List C). f v w ∷ zs) (pairs_pushed f xs ys x y (omega (arith, e)))
+
+abbrev pub beside : List Datum → List Datum → List Datum
+beside row others = row ++ others
+
+pub rows_beside : (n : ℕ) (a b : List (List Datum)) → rows_in n (a ++ b) ≡ by_pairs beside (rows_in n a) (rows_in n b)
+rows_beside zero a b = refl
+rows_beside (suc n) a b =
+    ap (λ (rows : List (List Datum)). rows ++ row_at n (a ++ b) ∷ []) (rows_beside n a b)
+    ∙ ap (λ (row : List Datum). by_pairs beside (rows_in n a) (rows_in n b) ++ row ∷ []) (map-append (λ (column : List Datum). get_or column n Null) a b)
+    ∙ sym (pairs_pushed beside (rows_in n a) (rows_in n b) (row_at n a) (row_at n b) (length_rows n a ∙ sym (length_rows n b)))
+
+-- as many rows
+pub same_count : (n m : ℕ) (a b old more : List (List Datum)) → rows_in n a ≡ old → rows_in m b ≡ more → length more ≡ length old → m ≡ n
+same_count n m a b old more v w e = sym (length_rows m b) ∙ ap length w ∙ e ∙ sym (ap length v) ∙ length_rows n a
+
+pub long_beside : (n m : ℕ) (a b ds old more : List (List Datum)) → rows_in n a ≡ old → rows_in m b ≡ more → length more ≡ length old → ds ≡ a ++ b → AreLong n a → AreLong m b → AreLong n ds
+long_beside n m a b ds old more v w e f h k =
+    subst (AreLong n) (sym f) (all_long n a b h (subst (λ (i : ℕ). AreLong i b) (same_count n m a b old more v w e) k))
+
+pub rows_appended : (n m : ℕ) (a b ds old more : List (List Datum)) → rows_in n a ≡ old → rows_in m b ≡ more → length more ≡ length old → ds ≡ a ++ b → rows_in n ds ≡ by_pairs beside old more
+rows_appended n m a b ds old more v w e f =
+    ap (rows_in n) f ∙ rows_beside n a b ∙ ap (λ (rows : List (List Datum)). by_pairs beside rows (rows_in n b)) v
+    ∙ ap (by_pairs beside old) (ap (λ (i : ℕ). rows_in i b) (sym (same_count n m a b old more v w e)) ∙ w)

@@ -1,5 +1,5 @@
 //! Reading the values of a payload into columns, in which no run is kept.
-ghost use Rattle.std.specs.Prelude.{◌≡◌, ◌+◌, ◌≤◌, ◌++◌, [], ◌∷◌, replicate, Ok, IfOk, OnOk, IfSome};
+ghost use Rattle.std.specs.Prelude.{◌≡◌, ◌+◌, ◌≤◌, ◌++◌, [], ◌∷◌, map, replicate, Ok, IfOk, OnOk, IfSome};
 ghost use Rattle.file_items.specs.Items.{IsRead, repeat};
 ghost use Rattle.array_geom.specs.Attribute.{Attribute as OneAttribute};
 ghost use Rattle.array_geom.specs.Kind.TheVariants.{Int64};
@@ -12,7 +12,7 @@ use crate::expanding::push_copies;
 use crate::numbers::is_same_number;
 use crate::reading::{is_run_length, runs_from};
 use crate::runs::{NumberRun, Run};
-use array_geom::{Attribute, Datum, Kind, List, Memory};
+use array_geom::{Attribute, Kind, List, Memory};
 use array_rows::Column as Values;
 use file_items::{Stop, u64_at};
 use std::alloc::Global;
@@ -82,11 +82,11 @@ fn number_run(
 }
 
 /// Adds a number so many times.
-fn push_run(values: &mut Values, run: NumberRun) -> Result<(), Memory>
-    ensures { OnOk result (values.new ≡ values.old ++ replicate run.length (Int run.number)) }
+fn push_run(numbers: &mut List<i64>, run: NumberRun) -> Result<(), Memory>
+    ensures { OnOk result (map Int numbers.new ≡ map Int numbers.old ++ replicate run.length (Int run.number)) }
 {
     for _ in 0..run.length {
-        values.push(Datum::Int(run.number))?;
+        numbers.push(run.number)?;
     }
     Ok(())
 }
@@ -101,14 +101,14 @@ fn numbers_from(
     ensures { IfOk result (λ found. IfSome found (λ x. (attribute : OneAttribute) → attribute.kind ≡ Int64
         → AreValuesOf attribute n count bytes.now x.0 x.1.now)) }
 {
-    let mut values = Values::new(alloc);
+    let mut numbers = List::new(alloc);
     let mut total: u64 = 0;
     let mut before = None;
     let mut rest = bytes;
     for index in 0..count {
         match number_run(n, total, before, count - index - 1, rest) {
             Some((run, after)) => {
-                push_run(&mut values, run)?;
+                push_run(&mut numbers, run)?;
                 total += run.length;
                 before = Some(run.number);
                 rest = after;
@@ -116,7 +116,7 @@ fn numbers_from(
             None => return Ok(None),
         }
     }
-    Ok(Some((values, rest)))
+    Ok(Some((Values::from_numbers(numbers), rest)))
 }
 
 /// Adds the value of a run so many times: the value itself where that is once.

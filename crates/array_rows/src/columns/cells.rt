@@ -58,6 +58,13 @@ impl Cells {
         }
     }
 
+    /// The cells of a form.
+    pub fn from_form(alloc: Global, form: Form) -> Cells
+        ensures { result ≡ cells_in form }
+    {
+        Cells { alloc, form }
+    }
+
     /// No cells, with the allocator of these.
     pub fn another(&self) -> Cells
         ensures { result ≡ [] }
@@ -71,6 +78,14 @@ impl Cells {
     {
         let Cells { alloc, form } = self;
         list_of(alloc, form)
+    }
+
+    /// How the cells are kept, without a copy.
+    pub fn into_form(self) -> Form
+        ensures { cells_in result ≡ self }
+    {
+        let Cells { alloc: _, form } = self;
+        form
     }
 
     /// How many cells there are.

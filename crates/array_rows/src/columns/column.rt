@@ -152,6 +152,15 @@ impl Column {
         }
     }
 
+    /// The numbers as values, without a copy.
+    pub fn from_numbers(numbers: List<i64>) -> Column
+        ensures { result ≡ map Int numbers }
+    {
+        Column {
+            held: Held::Numbers(numbers),
+        }
+    }
+
     /// Adds a value at the end.
     pub fn push(&mut self, value: Datum) -> Result<(), Memory>
         ensures { OnOk result (self.new ≡ self.old ++ value ∷ []) }

@@ -1,6 +1,7 @@
 //! Rows of values, in columns.
-ghost use Rattle.std.specs.Prelude.{◌≡◌, ◌<◌, true, [], ◌∷◌, ◌++◌, length, map, cond, slice_index_or, OnOk, IfOk, IfSome};
+ghost use Rattle.std.specs.Prelude.{◌≡◌, ◌<◌, true, [], ◌∷◌, ◌++◌, length, map, cond, slice_index_or, OnOk, OnErr, IfOk, IfSome};
 ghost use Rattle.cell_values.specs.declared.datum.Datum.TheVariants.{Null, Int};
+ghost use Rattle.array_rows.specs.Boxes.{by_pairs};
 ghost use Rattle.array_rows.specs.CellFaults.{fault_of_values};
 ghost use Rattle.array_rows.specs.RowsIn.{rows_in, AreLong};
 ghost use Rattle.array_rows.specs.Seen.{seen};
@@ -214,6 +215,20 @@ impl Rows {
                 Err(error)
             }
         }
+    }
+
+    /// Adds the values of others behind those of these rows, row by row.
+    pub fn append_columns(&mut self, more: Rows) -> Result<(), Memory>
+        requires { length more ≡ length self.old }
+        ensures ok { OnOk result (self.new ≡ by_pairs (λ row others. row ++ others) self.old more) }
+        ensures err { OnErr result (self.new ≡ self.old) }
+    {
+        let Rows {
+            count: _,
+            mut columns,
+        } = more;
+        self.columns.append(&mut columns)?;
+        Ok(())
     }
 
     /// The value in a place of a row, where it is a number or a truth.
