@@ -2,10 +2,13 @@ pub mod ArraysGatherLaws
 pub mod BandGroups
 pub mod BandLaws
 pub mod ChunkLaws
+pub mod ColumnLaws
 pub mod CountFronts
 pub mod CountLaws
 pub mod FillLaws
 pub mod FrontLaws
+pub mod GridChunks
+pub mod GridGroups
 pub mod GroupLaws
 pub mod HoldLaws
 pub mod LandedLaws
@@ -14,9 +17,11 @@ pub mod LandingsGatherLaws
 pub mod MeantLaws
 pub mod OrderLaws
 pub mod SortLaws
+pub mod SpanLaws
 pub mod StateLaws
 pub mod StepLaws
 pub mod TakenLaws
+pub mod TargetLaws
 pub mod TellLaws
 pub mod ValueLaws
 mod WorkedTargets

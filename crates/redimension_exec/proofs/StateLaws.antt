@@ -29,7 +29,7 @@ use Rattle.redimension_exec.proofs.LandingsGatherLaws.{landed_more, landed_break
 
 -- ---- one row more at a coordinate
 
-landed_last : (all : List Landed) (at : ArrayVec ℤ) (row : Row) (c : Coordinate) → landed_at (all ++ (at.items, row) ∷ []) c ≡ landed_at all c ++ cond (is_eq (row_major at.items c)) (row ∷ []) []
+pub landed_last : (all : List Landed) (at : ArrayVec ℤ) (row : Row) (c : Coordinate) → landed_at (all ++ (at.items, row) ∷ []) c ≡ landed_at all c ++ cond (is_eq (row_major at.items c)) (row ∷ []) []
 landed_last all at row c =
     ap (λ (some : List Landed). map (λ (l : Landed). l.1) some) (filter-append (λ (l : Landed). is_eq (row_major l.0 c)) all ((at.items, row) ∷ []))
     ∙ map-append (λ (l : Landed). l.1) (filter (λ (l : Landed). is_eq (row_major l.0 c)) all) (filter (λ (l : Landed). is_eq (row_major l.0 c)) ((at.items, row) ∷ []))

@@ -1,9 +1,11 @@
 pub mod Bands
 pub mod Counting
+pub mod Dense
 pub mod Filling
 pub mod Grouping
 pub mod Places
 pub mod Sorting
+pub mod Spans
 pub mod Steps
 pub mod Taking
 pub mod Telling

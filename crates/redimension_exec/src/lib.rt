@@ -2,6 +2,7 @@
 #![tactic(auto)]
 
 mod arrays;
+mod dense;
 mod filling;
 mod landings;
 mod moving;

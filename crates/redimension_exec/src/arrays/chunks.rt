@@ -9,6 +9,7 @@ ghost use Rattle.redimension_exec.specs.Inner.Counting.{has_counted};
 ghost use Rattle.redimension_exec.specs.Inner.Grouping.{AreGroupsLanded};
 
 use crate::arrays::bands::{groups_in_band, groups_in_bands};
+use crate::dense::groups_by_places;
 use array_geom::Chunk;
 use cell_values::{Broken, Margins, Memory, Schema};
 use group_rows::{Groups, merge_two};
@@ -35,6 +36,30 @@ fn groups_in_chunk(
     }
 }
 
+/// The same by the places of a grid, where there is one chunk and that is possible.
+fn groups_in_one(
+    source: &Schema,
+    target: &Schema,
+    aggregates: &[Aggregate],
+    margins: &Margins,
+    chunks: &[Chunk],
+) -> Result<Option<Groups>, Memory>
+    requires few { length target.now.dimensions ≤ 6 }
+    requires plain { has_counted (map (origin_of source.now) target.now.dimensions) ≡ false }
+    requires bands { AreBands source.now margins.now.items chunks.now }
+    ensures groups { IfOk result (λ found. IfSome found (λ groups. AreGroupsLanded aggregates.now (map (origin_of source.now) target.now.dimensions)
+        (bounds_of target.now.dimensions) (core_rows source.now.dimensions margins.now.items chunks.now) (Good groups))) }
+    ensures cells { IfOk result (λ found. IfSome found (λ groups. cells_in groups.groups ≤ length (core_rows source.now.dimensions margins.now.items chunks.now))) }
+{
+    if chunks.len() == 1 {
+        let found = groups_by_places(source, target, aggregates, margins, &chunks[0])?;
+        if let Some(groups) = found {
+            return Ok(Some(groups));
+        }
+    }
+    groups_in_chunk(source, target, aggregates, margins, chunks)
+}
+
 /// The same, half by half until a chunk is left.
 fn groups_in_chunks(
     source: &Schema,
@@ -52,7 +77,7 @@ fn groups_in_chunks(
 {
     let half = chunks.len() / 2;
     if half == 0 {
-        return groups_in_chunk(source, target, aggregates, margins, chunks);
+        return groups_in_one(source, target, aggregates, margins, chunks);
     }
     let (front, back) = chunks.split_at(half);
     match groups_in_chunks(source, target, aggregates, margins, front)? {
