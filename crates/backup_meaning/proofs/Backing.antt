@@ -8,30 +8,24 @@ use Rattle.cell_values.specs.declared.datum.Row.{Row}
 use Rattle.cell_values.specs.declared.schema.Schema.{Schema}
 use Rattle.cell_values.specs.Schemas.{IsValid}
 use Rattle.array_rows.specs.Arrays.{AreRowsOf}
-use Rattle.array_geom.specs.declared.chunk.Chunk.{Chunk}
 use Rattle.array_geom.specs.Geometry.{ChunkNumber}
-use Rattle.array_geom.specs.Link.{is_listed, numbers, NumbersRise}
 use Rattle.logical_plan.specs.Typing.{AreSound}
 use Rattle.plan_changes.specs.Databases.{Version, Stored, Database, HoldsArrays, entry_of}
 use Rattle.plan_changes.specs.Stored.{NamesRise, RiseBetween, IsStored as IsStoredEntry, IsDatabase}
 use Rattle.file_items.specs.Items.{Are}
-use Rattle.chunk_rle.specs.Stored.{IsStored}
 use Rattle.version_catalog.specs.Table.{is_next_name}
-use Rattle.backup_format.specs.Pieces.{Piece, PiecesVersion, PiecesArray, rising_numbers, stored_payload, piece_of, version_of, array_of, pieces_of}
+use Rattle.backup_format.specs.Pieces.{Piece, PiecesVersion, PiecesArray, stored_payload, piece_of, version_of, array_of, pieces_of}
 use Rattle.backup_format.specs.Spelling.{spell_arrays, signed}
-use Rattle.backup_format.specs.Table.{chunk_of_piece, is_its_payload, number_in, last_in, name_in, rows_of}
+use Rattle.backup_format.specs.Table.{is_its_payload, number_in, last_in, name_in, rows_of}
 use Rattle.backup_format.specs.Backups.{backup, IsCountedVersion, IsCountedArray, ReadsAreBackups}
 use Rattle.backup_format.specs.Laws.{IsNextPiece, IsNextVersion, IsNextArray, AreArrays}
 use Rattle.backup_format.proofs.ItemLaws.{read_is_spelled}
 use Rattle.backup_format.proofs.PieceLaws.{some_dimensions, core_of as placed_core, rising, chunks_stored, chunk_numbers}
-use Rattle.backup_format.proofs.RisingNumbers.{AreSized, the_only}
-use Rattle.backup_meaning.proofs.Cores.{cores_listed, cores_sound, cores_rows}
+use Rattle.backup_format.proofs.RisingNumbers.{AreSized}
+use Rattle.backup_meaning.proofs.PieceRows.{AreOfRows, are_of_rows, own_numbers}
 use Rattle.backup_format.proofs.CoreChunks.{core_long}
 
 -- ---- pieces
-
-abbrev own_numbers : List Piece → List ChunkNumber
-own_numbers pieces = map (λ (p : Piece). p.at) pieces
 
 numbers_sized : (schema : Schema) (n : ℕ) (before : Option ChunkNumber) (pieces : List Piece) → Are (IsNextPiece schema) number_in n before pieces → AreSized (length schema.dimensions) (own_numbers pieces)
 unfolding Are
@@ -64,25 +58,18 @@ record IsBack (schema : Schema) (v : PiecesVersion) : Type 0 where
   counted : IsCountedVersion v
 
 is_back : (schema : Schema) (next last after : ℕ) (v : PiecesVersion) → IsValid schema → IsNextVersion schema next last after v → IsBack schema v
-unfolding rows_of
 is_back schema next last after v valid good =
-    let dims = schema.dimensions in
     let pieces = v.pieces in
     let ks : List ChunkNumber = own_numbers pieces in
-    let chunks : List Chunk = map (chunk_of_piece schema) pieces in
     let rows : List Row = rows_of schema pieces in
     let each = good.pieces.each in
-    let stored : AllByRecursion (IsStored schema) chunks = chunks_stored schema (length pieces) None pieces valid each in
-    let their : numbers chunks ≡ ks = chunk_numbers schema (length pieces) None pieces valid each in
-    let rise : NumbersRise ks = rising schema (length pieces) pieces (some_dimensions schema valid) each in
-    let are : AreRowsOf schema rows = cores_rows schema chunks valid (subst NumbersRise (sym their) rise) stored in
-    let only : ks ≡ rising_numbers dims rows =
-    the_only schema rows ks are rise (numbers_sized schema (length pieces) None pieces each)
-    (λ k long. ap (is_listed k) (sym their) ∙ sym (cores_listed schema k chunks long stored)) in
+    let its : AreOfRows schema ks rows =
+    are_of_rows schema pieces ks valid (chunks_stored schema (length pieces) None pieces valid each) (chunk_numbers schema (length pieces) None pieces valid each)
+    (rising schema (length pieces) pieces (some_dimensions schema valid) each) (numbers_sized schema (length pieces) None pieces each) in
     record {
-      are = are;
-      sound = cores_sound schema chunks stored;
-      again = ap (λ (ps : List Piece). record { number = v.number; pieces = ps }) (sym (same_pieces schema rows pieces good.fit ∙ ap (map (piece_of schema rows)) only));
+      are = its.are;
+      sound = its.sound;
+      again = ap (λ (ps : List Piece). record { number = v.number; pieces = ps }) (sym (same_pieces schema rows pieces good.fit ∙ ap (map (piece_of schema rows)) its.only));
       counted = (good.pieces.below, all_few schema (length pieces) None pieces each);
     }
 

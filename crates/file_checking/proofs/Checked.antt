@@ -22,7 +22,7 @@ use Rattle.backup_format.specs.Laws.{AreBytes}
 use Rattle.backup_format.specs.Pieces.{Piece, rising_numbers, stored_chunk, stored_payload, piece_of}
 use Rattle.backup_format.specs.Table.{chunk_in, chunk_or_none, chunk_of_piece, is_its_payload, fit_together, rows_of}
 use Rattle.backup_format.proofs.RisingNumbers.{AreSized, the_only}
-use Rattle.backup_meaning.proofs.Cores.{cores_listed, cores_sound, cores_rows}
+use Rattle.backup_meaning.proofs.PieceRows.{AreOfRows, are_of_rows, own_numbers}
 use Rattle.backup_format.proofs.CoreChunks.{core_long}
 use Rattle.backup_meaning.proofs.Fitting.{IsNumberOf, numbers_are, read_all, versions_fit}
 use Rattle.file_meaning.specs.Standing.{HoldsPart}
@@ -31,32 +31,31 @@ use Rattle.array_geom.specs.Link as link
 
 -- ---- what passes
 
-record IsItsChunk (schema : Schema) (piece : Piece) : Type 0 where
-  stored : IsStored schema (chunk_of_piece schema piece)
-  number : (chunk_of_piece schema piece).at.items ≡ piece.at
+pub record IsItsChunk (schema : Schema) (piece : Piece) : Type 0 where
+  pub read : chunk_in schema piece.at piece.payload ≡ Ok (chunk_of_piece schema piece)
+  pub stored : IsStored schema (chunk_of_piece schema piece)
+  pub number : (chunk_of_piece schema piece).at.items ≡ piece.at
 
-its_chunk : (schema : Schema) (piece : Piece) → IsValid schema → AreBytes piece.payload → IsRead schema piece → IsItsChunk schema piece
+pub its_chunk : (schema : Schema) (piece : Piece) → IsValid schema → AreBytes piece.payload → IsRead schema piece → IsItsChunk schema piece
 its_chunk schema piece valid small r =
     let is : chunk_of_piece schema piece ≡ r.chunk = ap (chunk_or_none piece.at) r.read in
     record {
+      read = r.read ∙ ap Ok (sym is);
       stored = subst (IsStored schema) (sym is) (taken schema (record { items = piece.at }) piece.payload r.chunk valid r.core small r.read);
       number = ap (λ (c : Chunk). c.at.items) is ∙ ap (λ (at : ArrayVec ℕ). at.items) (taken_number schema (record { items = piece.at }) piece.payload r.chunk small r.read);
     }
 
-abbrev own_numbers : List Piece → List ChunkNumber
-own_numbers pieces = map (λ (p : Piece). p.at) pieces
-
-chunks_stored : (schema : Schema) (pieces : List Piece) → IsValid schema → AreOfBytes pieces → AllByRecursion (IsRead schema) pieces → AllByRecursion (IsStored schema) (map (chunk_of_piece schema) pieces)
+pub chunks_stored : (schema : Schema) (pieces : List Piece) → IsValid schema → AreOfBytes pieces → AllByRecursion (IsRead schema) pieces → AllByRecursion (IsStored schema) (map (chunk_of_piece schema) pieces)
 chunks_stored schema [] valid small read = tt
 chunks_stored schema (p ∷ pieces) valid small read = ((its_chunk schema p valid small.0 read.0).stored, chunks_stored schema pieces valid small.1 read.1)
 
-chunk_numbers : (schema : Schema) (pieces : List Piece) → IsValid schema → AreOfBytes pieces → AllByRecursion (IsRead schema) pieces → link.numbers (map (chunk_of_piece schema) pieces) ≡ own_numbers pieces
+pub chunk_numbers : (schema : Schema) (pieces : List Piece) → IsValid schema → AreOfBytes pieces → AllByRecursion (IsRead schema) pieces → link.numbers (map (chunk_of_piece schema) pieces) ≡ own_numbers pieces
 chunk_numbers schema [] valid small read = refl
 chunk_numbers schema (p ∷ pieces) valid small read =
     ap (λ (k : ChunkNumber). k ∷ link.numbers (map (chunk_of_piece schema) pieces)) (its_chunk schema p valid small.0 read.0).number
     ∙ ap (λ (ks : List ChunkNumber). p.at ∷ ks) (chunk_numbers schema pieces valid small.1 read.1)
 
-entry_numbers : (file : List ℕ) (entries : List DirEntry) → own_numbers (map (piece_in file) entries) ≡ numbers entries
+pub entry_numbers : (file : List ℕ) (entries : List DirEntry) → own_numbers (map (piece_in file) entries) ≡ numbers entries
 entry_numbers file [] = refl
 entry_numbers file (e ∷ entries) = ap (λ (ks : List ChunkNumber). e.at.items ∷ ks) (entry_numbers file entries)
 
@@ -77,23 +76,17 @@ parts_held file schema rows (e ∷ entries) are sound their fit =
     (ap (chunk_in schema k) same ∙ read, parts_held file schema rows entries are sound their.1 both.1)
 
 pub checked_versions_hold : CheckedVersionsHold
-unfolding rows_of
 checked_versions_hold file schema directory valid rise small passes =
     let dims = schema.dimensions in
     let pieces : List Piece = pieces_in file directory in
     let ks : List ChunkNumber = numbers directory.entries in
-    let chunks : List Chunk = map (chunk_of_piece schema) pieces in
     let rows : List Row = rows_of schema pieces in
-    let stored : AllByRecursion (IsStored schema) chunks = chunks_stored schema pieces valid small passes.read in
     let own : own_numbers pieces ≡ ks = entry_numbers file directory.entries in
-    let their : link.numbers chunks ≡ ks = chunk_numbers schema pieces valid small passes.read ∙ own in
-    let are : AreRowsOf schema rows = cores_rows schema chunks valid (subst NumbersRise (sym their) rise) stored in
-    let sound : AreSound schema rows = cores_sound schema chunks stored in
-    let sized : AreSized (length dims) ks = subst (AreSized (length dims)) own (long_numbers schema pieces passes.read) in
-    let listed : (k : ChunkNumber) → length k ≡ length dims → is_listed k ks ≡ has_cell dims rows k = λ k long. ap (is_listed k) (sym their) ∙ sym (cores_listed schema k chunks long stored) in
-    let only : ks ≡ rising_numbers dims rows = the_only schema rows ks are rise sized listed in
-    let each : AllByRecursion (IsNumberOf dims rows) ks = subst (AllByRecursion (IsNumberOf dims rows)) (sym only) (numbers_are schema rows are) in
-    (rows, record { are = are; sound = sound; holds = record { listed = listed; payloads = parts_held file schema rows directory.entries are sound each passes.fit } })
+    let its : AreOfRows schema ks rows =
+    are_of_rows schema pieces ks valid (chunks_stored schema pieces valid small passes.read) (chunk_numbers schema pieces valid small passes.read ∙ own) rise
+    (subst (AreSized (length dims)) own (long_numbers schema pieces passes.read)) in
+    let each : AllByRecursion (IsNumberOf dims rows) ks = subst (AllByRecursion (IsNumberOf dims rows)) (sym its.only) (numbers_are schema rows its.are) in
+    (rows, record { are = its.are; sound = its.sound; holds = record { listed = its.listed; payloads = parts_held file schema rows directory.entries its.are its.sound each passes.fit } })
 
 -- ---- what holds rows
 

@@ -1,0 +1,2 @@
+pub mod CheckExample
+pub mod Steps
