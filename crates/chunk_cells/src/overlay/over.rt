@@ -1,15 +1,29 @@
 //! The cells of a chunk put over those of another.
-ghost use Rattle.std.specs.Prelude.{◌≡◌, ℕ, ◌+◌, ◌<◌, ◌≤◌, ◌^◌, List as Items, length, OnOk, IfOk};
+ghost use Rattle.std.specs.Prelude.{◌≡◌, ℕ, ◌+◌, ◌<◌, ◌≤◌, ◌^◌, List as Items, [], ◌∷◌, ◌++◌, length, slice_index_or, OnOk, IfOk};
+ghost use Rattle.cell_values.specs.declared.datum.Cell.TheVariants.{Full};
 ghost use Rattle.cell_values.specs.declared.datum.Row.{Row};
 ghost use Rattle.cell_values.specs.declared.schema.Schema.{Schema};
+ghost use Rattle.array_rows.specs.Inner.CellsIn.{cells_in};
 ghost use Rattle.array_rows.specs.Rows.{IsRising, put_all};
 ghost use Rattle.array_geom.specs.Geometry.{HasFrame};
 ghost use Rattle.array_geom.specs.Link.{IsPart};
 ghost use Rattle.chunk_cells.specs.Inner.Over.{Goes, HasNext, HasRest};
 
 use array_geom::Chunk;
+use array_rows::{Cells, Form};
 use cell_values::{Memory, copy_numbers};
 use std::cmp::Ordering;
+
+/// Adds the cell of these at an index: one of values takes no list of its own.
+fn push_same(cells: &mut Cells, form: &Form, index: usize) -> Result<(), Memory>
+    requires { index < length (cells_in form.now) }
+    ensures { OnOk result (cells.new ≡ cells.old ++ slice_index_or (cells_in form.now) index (Full []) ∷ []) }
+{
+    match form {
+        Form::Even(rows) => cells.push_row(rows, index),
+        Form::Mixed(all) => cells.push(all[index].copy()?),
+    }
+}
 
 /// Adds the cell at an index of a chunk.
 fn push_cell(made: &mut Chunk, from: &Chunk, index: usize) -> Result<(), Memory>
@@ -18,7 +32,7 @@ fn push_cell(made: &mut Chunk, from: &Chunk, index: usize) -> Result<(), Memory>
     ensures { OnOk result (HasNext from.now index made.old made.new) }
 {
     made.positions.push(from.positions[index])?;
-    made.cells.push(from.cells.cell(index)?)?;
+    push_same(&mut made.cells, from.cells.form(), index)?;
     Ok(())
 }
 
