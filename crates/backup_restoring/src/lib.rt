@@ -1,0 +1,9 @@
+//! Making a database of a backup: the whole stream is read and tested before the first page is
+//! written, and whatever a crash leaves afterwards is the backup's database.
+#![tactic(auto)]
+
+mod fault;
+mod restoring;
+
+pub use fault::RestoreFault;
+pub use restoring::restore;
