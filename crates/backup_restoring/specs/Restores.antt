@@ -110,7 +110,7 @@ abbrev pub HasRead : SourceState → SourceState → Result (Unit {0}) RestoreFa
 HasRead old new (Ok u) = HasGivenAll old new
 HasRead old new (Err faults.Source) = HasGiven old new
 HasRead old new (Err faults.Disk) = HasGiven old new
-HasRead old new (Err (faults.NotEmpty count)) = new ≡ old
+HasRead old new (Err (faults.NotEmpty count)) = HasGiven old new
 HasRead old new (Err (faults.NotBackup at)) = HasGivenAll old new
 HasRead old new (Err (faults.Full needed free)) = HasGivenAll old new
 HasRead old new (Err (faults.NotDatabase page)) = HasGivenAll old new
