@@ -2,8 +2,15 @@
 //! written, and whatever a crash leaves afterwards is the backup's database.
 #![tactic(auto)]
 
+mod arrays;
+mod base;
+mod counting;
 mod fault;
+mod making;
+mod pages;
+mod reading;
 mod restoring;
+mod versions;
 
 pub use fault::RestoreFault;
 pub use restoring::restore;
