@@ -31,10 +31,8 @@ pub entry_is : (first n : ℕ) (at copy : ArrayVec ℕ) (payload own pages : Lis
 entry_is first n at copy payload own pages at_is is long lie =
     let size : n ≡ length payload = long ∙ ap (λ (p : List ℕ). length p) is in
     let placed : pages ≡ pages_from first (pages_needed (length payload)) = lie ∙ ap (λ (p : List ℕ). pages_from first (pages_needed (length p))) is in
-    ap (λ (a : ArrayVec ℕ). made a n pages) at_is ∙ ap (λ (m : ℕ). made at m pages) size ∙ ap (λ (ps : List ℕ). made at (length payload) ps) placed
-  where
-    made : ArrayVec ℕ → ℕ → List ℕ → DirEntry
-    made a m ps = record { at = a; length = m; birth = 2; pages = ps }
+    ap (λ (a : ArrayVec ℕ). record { at = a; length = n; birth = 2; pages = pages }) at_is ∙ ap (λ (m : ℕ). record { at = at; length = m; birth = 2; pages = pages }) size
+    ∙ ap (λ (ps : List ℕ). record { at = at; length = length payload; birth = 2; pages = ps }) placed
 
 pub payload_written : (first : ℕ) (payload own : List ℕ) (s t : Slots) (old new : Moment) → own ≡ payload
     → Writes first (pages_needed (length own)) (λ now. HoldsBlob page_size now (pages_from first (pages_needed (length own))) own) s t old new
@@ -66,8 +64,8 @@ blob_is first version next bytes blob t is =
     ∙ ap (λ (p : ℕ). record { length = directory_length version; pages = pages_from p (pages_needed (length bytes)) }) t.next_is
     ∙ ap (λ (n : ℕ). record { length = directory_length version; pages = pages_from (behind_payloads first version) n }) t.needs
 
-pub next_is : (first : ℕ) (version : PiecesVersion) (next : ℕ) (bytes : List ℕ) (later : ℕ) → IsText first version next bytes → later ≡ next + pages_needed (length bytes) → later ≡ first + version_pages version
-next_is first version next bytes later t is = let a = t.next_is in let b = t.needs in omega (arith, is, a, b)
+pub behind_is : (first : ℕ) (version : PiecesVersion) (next : ℕ) (bytes : List ℕ) (later : ℕ) → IsText first version next bytes → later ≡ next + pages_needed (length bytes) → later ≡ first + version_pages version
+behind_is first version next bytes later t is = let a = t.next_is in let b = t.needs in omega (arith, is, a, b)
 
 pub version_written : (first : ℕ) (version : PiecesVersion) (next : ℕ) (entries : List DirEntry) (bytes : List ℕ) (s0 s1 s2 : Slots) (m0 m1 m2 : Moment) → IsText first version next bytes
     → Lays payload_pages entry_at HoldsPayload first version.pieces next entries s0 s1 m0 m1
@@ -97,7 +95,8 @@ same_numbers whole (v ∷ vs) = ap (λ (ns : List ℕ). v.number ∷ ns) (same_n
 pub array_is : (whole : List ℕ) (first : ℕ) (array : ArrayAt) (directories : List BlobAt) → directories ≡ laid version_pages blob_at first (map (version_in whole) array.versions)
     → record { entry = record { name = array.name; schema = array.schema; next = array.next; versions = map (λ (v : VersionPiecesAt). v.number) array.versions }; directories = directories } ≡ array_at first (array_in whole array)
 array_is whole first array directories is =
-    ap (λ (ns : List ℕ). made ns directories) (same_numbers whole array.versions) ∙ ap (λ (ds : List BlobAt). made (map (λ (v : PiecesVersion). v.number) (map (version_in whole) array.versions)) ds) is
-  where
-    made : List ℕ → List BlobAt → CatalogArray
-    made ns ds = record { entry = record { name = array.name; schema = array.schema; next = array.next; versions = ns }; directories = ds }
+    ap (λ (ns : List ℕ). record { entry = record { name = array.name; schema = array.schema; next = array.next; versions = ns }; directories = directories }) (same_numbers whole array.versions)
+    ∙ ap (λ (ds : List BlobAt). record {
+      entry = record { name = array.name; schema = array.schema; next = array.next; versions = map (λ (v : PiecesVersion). v.number) (map (version_in whole) array.versions) };
+      directories = ds;
+    }) is

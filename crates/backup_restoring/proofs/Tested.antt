@@ -4,10 +4,13 @@ use Rattle.std.specs.Prelude.{if◌then◌else◌, min}
 use Rattle.std.proofs.lemmas.Bool.{le-leb}
 use Rattle.std.proofs.lemmas.Bool.Decides.{nat_tests}
 use Rattle.file_items.specs.Items.{wrong_at}
-use Rattle.backup_format.specs.Pieces.{PiecesArray}
+use Rattle.backup_format.specs.Backups.{backup}
+use Rattle.backup_format.specs.Pieces.{PiecesArray, pieces_of}
 use Rattle.backup_format.specs.PiecePlaces.{arrays_in}
 use Rattle.backup_format.specs.Table.{backup_in}
 use Rattle.backup_format.specs.declared.arrays.ArrayAt.{ArrayAt}
+use Rattle.backup_meaning.proofs.Reading.{backups_are_read}
+use Rattle.backup_restoring.specs.Laws.{BackupsAreRestored}
 use Rattle.backup_restoring.specs.Restores.{restore_pages, free_pages, restored_if, restored_from, restored_by}
 use Rattle.backup_restoring.specs.Inner.Steps.{IsDecoded, IsFitting, IsReadBackup, MayRestore}
 use Rattle.backup_restoring.specs.declared.fault.RestoreFault.{RestoreFault}
@@ -59,3 +62,6 @@ fitting_fault pages bytes all faults.Memory read is = tt
 
 pub may_restore : (pages : ℕ) (bytes : List ℕ) (arrays : List ArrayAt) → IsDecoded bytes (Ok arrays) → IsFitting pages (restore_pages (arrays_in bytes arrays)) (Ok tt) → MayRestore pages bytes arrays
 may_restore pages bytes arrays is fits = record { read = is.0; rules = is.1; fits = fits; by = by_fits pages bytes (arrays_in bytes arrays) is.0 fits }
+
+pub backups_are_restored : BackupsAreRestored
+backups_are_restored pages db database counted fits = by_fits pages (backup db) (pieces_of db) (backups_are_read db database counted) fits

@@ -6,6 +6,7 @@ mod arrays;
 mod base;
 mod counting;
 mod fault;
+mod laws;
 mod making;
 mod pages;
 mod reading;
@@ -13,4 +14,5 @@ mod restoring;
 mod versions;
 
 pub use fault::RestoreFault;
+pub use laws::backups_are_restored;
 pub use restoring::restore;

@@ -12,7 +12,7 @@ use Rattle.backup_restoring.proofs.restoring.restore_bytes.Goals as goal
 pub make-requires : goal.make-requires
 make-requires g c =
     let fits = c.in-Ok.ensures.fits in
-    subst (λ (arrays : List ArrayAt). 3 + restore_pages (arrays_in c.args.bytes.now arrays) ≤ 2 ^ 32) (sym c.as_slice.ensures) (omega (arith, fits, c.ranges.pages.fits))
+    record { room = subst (λ (arrays : List ArrayAt). 3 + restore_pages (arrays_in c.args.bytes.now arrays) ≤ 2 ^ 32) (sym c.as_slice.ensures) (omega (arith, fits, c.ranges.pages.fits)) }
 
 pub returns-in-Ok : goal.returns-in-Ok
 returns-in-Ok g c =

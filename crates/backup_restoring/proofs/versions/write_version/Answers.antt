@@ -6,7 +6,7 @@ use Rattle.backup_format.specs.declared.pieces.PieceAt.{PieceAt}
 use Rattle.backup_restoring.specs.Restores.{payload_pages, version_pages}
 use Rattle.backup_restoring.specs.Inner.Layout.{pages_from, blob_at, entry_at, HoldsPayload, HoldsPieces}
 use Rattle.backup_restoring.specs.Inner.Writing.{Lays, Writes}
-use Rattle.backup_restoring.proofs.Entries.{is_text, version_room, blob_is, next_is, version_written}
+use Rattle.backup_restoring.proofs.Entries.{is_text, version_room, blob_is, behind_is, version_written}
 use Rattle.backup_restoring.proofs.News.{ok_on}
 use Rattle.backup_restoring.proofs.versions.write_version.Goals as goal
 
@@ -49,7 +49,7 @@ returns-in-Ok-directory_bytes-clause-next g c =
     = subst (λ (ps : List PieceAt). Lays payload_pages entry_at HoldsPayload c.args.first (pieces_in c.args.whole.now ps) c.in-Ok.next c.in-Ok.entries s0 s1 m0 m1) c.as_slice.ensures c.in-Ok.ensures.laid in
     let text = is_text c.args.first version c.in-Ok.next c.in-Ok.entries bytes s0 s1 m0 m1 lays (c.as_slice-in-Ok-directory_bytes.ensures ∙ c.in-Ok-directory_bytes.ensures) in
     ok_on c.write_directory.result (λ x. x.1 ≡ c.in-Ok.next + pages_needed (length bytes)) (λ x. x.1 ≡ c.args.first + version_pages version)
-    (λ x is. next_is c.args.first version c.in-Ok.next bytes x.1 text is) c.write_directory.ensures.next
+    (λ x is. behind_is c.args.first version c.in-Ok.next bytes x.1 text is) c.write_directory.ensures.next
 
 pub returns-in-Ok-directory_bytes-clause-written : goal.returns-in-Ok-directory_bytes-clause-written
 returns-in-Ok-directory_bytes-clause-written g c =
