@@ -1,19 +1,15 @@
 -- The entries, directories and arrays that are made of what was written.
-use Rattle.std.proofs.Common.{◌≡◌, ℕ, ◌+◌, ◌<◌, ◌≤◌, ◌^◌, List, [], ◌∷◌, map, length, refl, sym, ◌∙◌, ap, subst, arith}
+use Rattle.std.proofs.Common.{◌≡◌, ℕ, ◌+◌, ◌<◌, ◌^◌, List, [], ◌∷◌, map, length, refl, ◌∙◌, ap, subst, arith}
 use Rattle.std.specs.Prelude.{sum_by}
 use Rattle.arrayvec.specs.ArrayVec.{ArrayVec}
 use Rattle.afl_outside.specs.Disk.{Moment}
 use Rattle.file_items.specs.Pages.{pages_needed}
-use Rattle.page_chain.specs.Places.{KeepsPages}
 use Rattle.page_chain.specs.Pages.{page_size, HoldsBlob}
 use Rattle.page_chain.specs.declared.slots.slots.slots.Slots.{Slots}
-use Rattle.cell_values.specs.declared.schema.Schema.{Schema}
-use Rattle.logical_plan.specs.declared.names.NameEntry.{NameEntry}
 use Rattle.chunk_map.specs.declared.directory.DirEntry.{DirEntry}
 use Rattle.chunk_map.specs.Spelling.{spelling as directory_spelling}
 use Rattle.version_catalog.specs.declared.rules.catalog.BlobAt.{BlobAt}
-use Rattle.version_catalog.specs.declared.rules.catalog.CatalogArray.{CatalogArray}
-use Rattle.backup_format.specs.Pieces.{Piece, PiecesVersion, PiecesArray}
+use Rattle.backup_format.specs.Pieces.{PiecesVersion}
 use Rattle.backup_format.specs.PiecePlaces.{version_in, array_in}
 use Rattle.backup_format.specs.declared.arrays.ArrayAt.{ArrayAt}
 use Rattle.backup_format.specs.declared.versions.VersionPiecesAt.{VersionPiecesAt}

@@ -1,5 +1,5 @@
 -- A file that holds what is restored finds just that.
-use Rattle.std.proofs.Common.{◌≡◌, ℕ, zero, suc, ◌+◌, ◌/◌, ◌^◌, ◌<◌, ◌≤◌, Bool, true, false, List, [], ◌∷◌, ◌++◌, length, slice_index, refl, sym, ◌∙◌, ap, subst, arith}
+use Rattle.std.proofs.Common.{◌≡◌, ℕ, zero, suc, ◌+◌, ◌/◌, ◌^◌, ◌<◌, ◌≤◌, Bool, true, false, List, [], ◌∷◌, ◌++◌, length, slice_index, refl, sym, ◌∙◌, ap, arith}
 use Rattle.std.specs.Prelude.{if◌then◌else◌, ◌&&◌, nat_le, sum_by, Ok, Err}
 use Rattle.std.specs.List.{AllByRecursion}
 use Rattle.std.proofs.lemmas.Bool.{and_from}
@@ -11,17 +11,15 @@ use Rattle.cell_values.specs.declared.schema.Schema.{Schema}
 use Rattle.array_geom.specs.Geometry.{has_core}
 use Rattle.page_chain.specs.Places.{IsNone}
 use Rattle.page_chain.specs.declared.slots.layout.sides.Side.{Side}
-use Rattle.page_file.specs.Pages.{page_size, pages_for, has_page, blob}
+use Rattle.page_file.specs.Pages.{page_size, pages_for, blob}
 use Rattle.page_file.specs.Chains.{chain, chain_bytes, content_size}
 use Rattle.page_file.specs.Links.{AreFree}
 use Rattle.page_file.proofs.PageLaws.{chain_read}
 use Rattle.chunk_map.specs.declared.directory.DirEntry.{DirEntry}
-use Rattle.chunk_map.specs.declared.directory.Directory.{Directory}
-use Rattle.chunk_map.specs.Spelling.{spelling as directory_spelling, IsDirectory}
+use Rattle.chunk_map.specs.Spelling.{spelling as directory_spelling}
 use Rattle.chunk_map.specs.Table.{directory_in}
 use Rattle.chunk_map.proofs.Laws.{directory_again}
 use Rattle.chunk_map.proofs.Rules.{are_entries}
-use Rattle.version_catalog.specs.declared.rules.catalog.Catalog.{Catalog}
 use Rattle.version_catalog.specs.Catalogs.{IsCatalog}
 use Rattle.version_catalog.specs.Spelling.{spelling as catalog_spelling}
 use Rattle.version_catalog.specs.Table.{catalog_in}
@@ -34,7 +32,7 @@ use Rattle.file_meaning.proofs.Steps.{then_is}
 use Rattle.backup_format.specs.Pieces.{Piece, PiecesVersion, PiecesArray}
 use Rattle.backup_restoring.specs.Restores.{payload_pages, directory_length, directory_pages, version_pages, array_pages, catalogue_length}
 use Rattle.backup_restoring.specs.Inner.Layout.{pages_from, laid, entry_at, directory_at, behind_payloads, blob_at, array_at, row_at, catalog_of, rows_of, behind_versions, chain_count, chain_of, log_of, root_of, HoldsPayload, HoldsPayloads, HoldsPieces, HoldsVersions, HoldsArrays, HoldsRestored}
-use Rattle.backup_restoring.proofs.Laid.{length_from, index_from, none_below, none_behind, distinct_from}
+use Rattle.backup_restoring.proofs.Laid.{length_from, index_from, none_below, distinct_from}
 use Rattle.backup_restoring.proofs.Claims.{AreUntaken, Takes, takes_none, takes_on, takes_back, HasPages, claims_from, are_pages_from, is_held}
 use Rattle.backup_restoring.proofs.Lengths.{directory_long, catalogue_long}
 use Rattle.backup_restoring.proofs.Rules.{IsPieceOf, ArePiecesOf, AreVersionsOf, is_directory}

@@ -1,16 +1,13 @@
 -- How many bytes the directories and the catalogue of a restored database have.
-use Rattle.std.proofs.Common.{◌≡◌, ℕ, suc, ◌+◌, ◌*◌, List, [], ◌∷◌, ◌++◌, map, length, refl, sym, ◌∙◌, ap, subst, arith}
+use Rattle.std.proofs.Common.{◌≡◌, ℕ, ◌+◌, ◌*◌, List, [], ◌∷◌, ◌++◌, map, length, refl, arith}
 use Rattle.std.specs.Prelude.{sum_by}
 use Rattle.std.specs.List.{flat_map}
 use Rattle.std.specs.Int.{w32, w64, to_le_bytes}
 use Rattle.std.proofs.lemmas.List.{length-append}
 use Rattle.std.proofs.lemmas.List.Sums.{sum_by-cons}
 use Rattle.file_items.specs.Spelling.{spell_name, spell_schema}
-use Rattle.chunk_map.specs.declared.directory.DirEntry.{DirEntry}
 use Rattle.chunk_map.specs.Spelling.{spell_entry, spelling as directory_spelling}
-use Rattle.version_catalog.specs.declared.rules.catalog.BlobAt.{BlobAt}
-use Rattle.version_catalog.specs.declared.rules.catalog.CatalogArray.{CatalogArray}
-use Rattle.version_catalog.specs.Spelling.{VersionAt, versions_at, spell_blob, spell_version, spell_array, spelling as catalog_spelling}
+use Rattle.version_catalog.specs.Spelling.{versions_at, spell_blob, spell_version, spell_array, spelling as catalog_spelling}
 use Rattle.backup_format.specs.Pieces.{Piece, PiecesVersion, PiecesArray}
 use Rattle.backup_restoring.specs.Restores.{payload_pages, entry_length, directory_length, directory_pages, version_length, version_pages, array_length, array_pages, catalogue_length}
 use Rattle.backup_restoring.specs.Inner.Layout.{pages_from, laid, entry_at, directory_at, behind_payloads, blob_at, array_at, catalog_of}

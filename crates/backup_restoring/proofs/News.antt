@@ -1,20 +1,17 @@
 -- A new file, and the database that is made of it.
-use Rattle.std.proofs.Common.{◌≡◌, ◌↔◌, ℕ, ◌+◌, ◌^◌, ◌<◌, ◌≤◌, Bool, true, false, List, [], ◌∷◌, length, IsTrue, Option, Some, None, IfSome, IfOk, IfErr, Result, Ok, Err, refl, sym, ◌∙◌, ap, subst, arith}
-use Rattle.std.specs.Prelude.{sum_by, OnOk}
-use Rattle.afl_outside.specs.Disk.{DiskState, DiskGoesOn, Moment, Only}
+use Rattle.std.proofs.Common.{◌≡◌, ◌↔◌, ℕ, ◌+◌, ◌^◌, ◌<◌, ◌≤◌, Bool, true, false, List, length, IsTrue, Option, Some, None, IfSome, IfOk, IfErr, Result, Ok, Err, refl, sym, ◌∙◌, ap, subst, arith}
+use Rattle.std.specs.Prelude.{OnOk}
+use Rattle.afl_outside.specs.Disk.{DiskGoesOn, Moment, Only}
 use Rattle.page_chain.specs.Opens.{OpensAs, WrongAt}
-use Rattle.page_chain.specs.Places.{IsNone, KeepsPages}
 use Rattle.page_chain.specs.Puts.{OnlySyncs}
 use Rattle.page_chain.specs.Roots.{current}
-use Rattle.page_chain.specs.Standing.{root_in, IsSound}
+use Rattle.page_chain.specs.Standing.{IsSound}
 use Rattle.page_chain.specs.declared.fault.OpenCause.{OpenCause}
 use Rattle.page_chain.specs.declared.fault.OpenCause.TheVariants as causes
 use Rattle.page_chain.specs.declared.slots.layout.logs.RecordAt.{RecordAt}
 use Rattle.page_chain.specs.declared.slots.layout.roots.OpenRoot.{OpenRoot}
 use Rattle.page_chain.specs.declared.slots.layout.roots.Root.{Root}
-use Rattle.page_chain.specs.declared.slots.layout.sides.Format.TheVariants.{Two}
 use Rattle.page_chain.specs.declared.slots.slots.slots.Slots.{Slots}
-use Rattle.page_chain.proofs.Kept.{keeps_on}
 use Rattle.page_chain.proofs.RunLemmas.{goes, rose_on}
 use Rattle.page_file.specs.Moments.{IsKnown}
 use Rattle.page_file.specs.OpeningOpened.{HasCause, IsOpened}
@@ -26,14 +23,13 @@ use Rattle.version_catalog.specs.declared.rules.catalog.Catalog.{Catalog}
 use Rattle.file_meaning.proofs.Free.{none_cons}
 use Rattle.file_meaning.proofs.Made.{opened_is}
 use Rattle.file_meaning.proofs.WrongSlots.{wrong_file, not_both}
-use Rattle.chunk_map.specs.declared.directory.Directory.{Directory}
 use Rattle.version_catalog.specs.declared.rules.catalog.CatalogArray.{CatalogArray}
 use Rattle.version_catalog.specs.Spelling.{spelling as catalog_spelling}
 use Rattle.backup_format.specs.Pieces.{PiecesArray}
 use Rattle.backup_restoring.specs.Restores.{array_pages, catalogue_length, restore_pages}
-use Rattle.backup_restoring.specs.Inner.Layout.{pages_from, laid, array_at, catalog_of, behind_versions, root_of, HoldsArray, HoldsArrays, HoldsRestored}
-use Rattle.backup_restoring.specs.Inner.Making.{init_fault, open_fault, FailsMade, FailsNew, IsOpenFault, OpensMade}
-use Rattle.backup_restoring.specs.Inner.Writing.{chain_needs, AwaitsBase, Closes, Fails, IsBase, IsBased, IsMade, Lays, Makes, OpensNew}
+use Rattle.backup_restoring.specs.Inner.Layout.{array_at, catalog_of, behind_versions, HoldsArray, HoldsArrays}
+use Rattle.backup_restoring.specs.Inner.Making.{init_fault, open_fault, FailsMade, FailsNew, OpensMade}
+use Rattle.backup_restoring.specs.Inner.Writing.{chain_needs, Closes, Fails, IsBase, IsBased, IsMade, Lays, Makes, OpensNew}
 use Rattle.backup_restoring.specs.declared.fault.RestoreFault.{RestoreFault}
 use Rattle.backup_restoring.specs.declared.fault.RestoreFault.TheVariants as faults
 use Rattle.backup_restoring.proofs.Laid.{none_below}

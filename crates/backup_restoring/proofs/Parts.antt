@@ -1,13 +1,12 @@
 -- What the calls of a page file leave, as restoring needs it.
-use Rattle.std.proofs.Common.{◌≡◌, ◌≢◌, inl, ℕ, zero, suc, ◌+◌, ◌*◌, ◌<◌, ◌≤◌, Bool, true, false, List, [], ◌∷◌, ◌++◌, length, slice_index, IsTrue, Option, Some, None, IfSome, refl, sym, ◌∙◌, ap, subst, arith}
-use Rattle.std.specs.Int.{div_ceil}
-use Rattle.afl_outside.specs.Disk.{DiskState, DiskGoesOn, Moment, Only}
+use Rattle.std.proofs.Common.{◌≡◌, ℕ, zero, suc, ◌+◌, ◌*◌, ◌<◌, ◌≤◌, List, [], ◌∷◌, ◌++◌, length, slice_index, IsTrue, Option, Some, IfSome, refl, sym, ◌∙◌, ap, subst, arith}
+use Rattle.afl_outside.specs.Disk.{DiskState, DiskGoesOn, Moment}
 use Rattle.page_chain.specs.Inner.Runs.{Sees}
 use Rattle.page_chain.specs.Opens.{OpensAs}
-use Rattle.page_chain.specs.Places.{other, IsNone, KeepsPages}
-use Rattle.page_chain.specs.Pages.{page_size, pages_for}
+use Rattle.page_chain.specs.Places.{other, KeepsPages}
+use Rattle.page_chain.specs.Pages.{page_size}
 use Rattle.page_chain.specs.Chains.{content_size, HoldsChain}
-use Rattle.page_chain.specs.Standing.{root_in, IsClosed, IsShut, IsShutRoot, IsSound, IsTarget, KeepsSound}
+use Rattle.page_chain.specs.Standing.{root_in, IsShut, IsShutRoot, IsSound, KeepsSound}
 use Rattle.page_chain.specs.Steps.{aimed, shut, slot_of_side, target_slot}
 use Rattle.page_chain.specs.declared.slots.layout.roots.Root.{Root}
 use Rattle.page_chain.specs.declared.slots.layout.sides.Side.{Side}

@@ -1,24 +1,20 @@
 -- What restoring answers, by the step at which it ends.
-use Rattle.std.proofs.Common.{◌≡◌, ◌≢◌, ℕ, ◌<◌, ◌≤◌, ◌^◌, Bool, List, [], length, IsTrue, Option, Some, None, IfSome, IfErr, Result, Ok, Err, refl, sym, ◌∙◌, ap, subst, arith}
-use Rattle.std.specs.Prelude.{OnOk, slice_index}
-use Rattle.std.specs.Io.KnownBytes.{IsAtEnd}
+use Rattle.std.proofs.Common.{◌≡◌, ◌≢◌, ℕ, Bool, List, [], length, IsTrue, Option, Some, None, IfSome, IfErr, Result, Ok, Err, refl, sym, subst}
+use Rattle.std.specs.Prelude.{OnOk}
 use Rattle.std.proofs.KnownBytes.{Consumes-all}
-use Rattle.afl_outside.specs.Disk.{DiskState, DiskGoesOn, Moment}
+use Rattle.afl_outside.specs.Disk.{DiskGoesOn, Moment}
 use Rattle.afl_outside.specs.Source.{SourceState, Gives}
 use Rattle.afl_outside.proofs.Streams.{Gives-nothing}
 use Rattle.page_chain.specs.Puts.{OnlySyncs}
 use Rattle.page_chain.proofs.RunLemmas.{goes, rose_on}
 use Rattle.page_file.proofs.PageReads.{syncs_twice}
 use Rattle.plan_changes.specs.Databases.{Database}
-use Rattle.backup_format.specs.Backups.{backup}
 use Rattle.backup_format.specs.Laws.{AreArrays, AreBytes}
 use Rattle.backup_format.specs.Pieces.{PiecesArray, pieces_of}
-use Rattle.backup_format.specs.PiecePlaces.{arrays_in}
 use Rattle.backup_format.specs.Table.{backup_in}
 use Rattle.backup_format.specs.declared.arrays.ArrayAt.{ArrayAt}
 use Rattle.backup_meaning.proofs.Backing.{reads_are_backups}
-use Rattle.backup_restoring.specs.Restores.{HasCause, HasGiven, HasRead, IsMeasured, IsRestored, IsTested, WhereUnwritten}
-use Rattle.backup_restoring.specs.Inner.Layout.{HoldsRestored}
+use Rattle.backup_restoring.specs.Restores.{HasCause, HasRead, IsMeasured, IsRestored, IsTested, WhereUnwritten}
 use Rattle.backup_restoring.specs.Inner.Making.{FailsNew, IsMakeFault, IsMeasureFault, IsRestoreFault, IsRestoredFrom}
 use Rattle.backup_restoring.specs.Inner.Steps.{IsReadBackup, MayRestore, WasRead}
 use Rattle.backup_restoring.specs.Inner.Writing.{IsMade}

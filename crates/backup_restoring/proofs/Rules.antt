@@ -1,5 +1,5 @@
 -- What passes the tests of a backup has directories and a catalogue.
-use Rattle.std.proofs.Common.{◌≡◌, ℕ, zero, suc, ◌+◌, ◌*◌, ◌^◌, ◌<◌, ◌≤◌, true, nat_lt, List, [], ◌∷◌, map, length, Option, Some, None, refl, sym, ◌∙◌, ap, subst, arith}
+use Rattle.std.proofs.Common.{◌≡◌, ℕ, zero, suc, ◌+◌, ◌*◌, ◌^◌, ◌<◌, ◌≤◌, true, List, [], ◌∷◌, map, length, Option, Some, None, refl, sym, ◌∙◌, ap, subst, arith}
 use Rattle.std.specs.Prelude.{sum_by}
 use Rattle.std.specs.List.{AllByRecursion}
 use Rattle.std.proofs.lemmas.Bool.{ltb-true}
@@ -13,10 +13,8 @@ use Rattle.file_items.specs.Pages.{pages_needed, LieIn}
 use Rattle.page_chain.specs.Pages.{page_size, pages_for}
 use Rattle.page_chain.proofs.BlobLemmas.{enough}
 use Rattle.page_chain.proofs.Kept.{size_is}
-use Rattle.chunk_map.specs.declared.directory.DirEntry.{DirEntry}
 use Rattle.chunk_map.specs.Entries.{numbers}
 use Rattle.chunk_map.specs.Spelling.{IsEntry, IsDirectory}
-use Rattle.version_catalog.specs.declared.rules.catalog.BlobAt.{BlobAt}
 use Rattle.version_catalog.specs.Catalogs.{IsBlob, HasDirectories}
 use Rattle.file_meaning.proofs.Counts.{counts_agree}
 use Rattle.backup_format.specs.Pieces.{Piece, PiecesVersion, PiecesArray}
@@ -24,7 +22,7 @@ use Rattle.backup_format.specs.Table.{Placing, next_placing, number_in, last_in,
 use Rattle.backup_format.specs.Laws.{IsPlaced, IsNextPiece, IsNextVersion, IsNextArray, AreArrays}
 use Rattle.backup_format.proofs.PieceLaws.{core_of, rising, some_dimensions}
 use Rattle.backup_format.proofs.CoreChunks.{core_long}
-use Rattle.backup_restoring.specs.Restores.{payload_pages, directory_length, directory_pages, version_pages, array_pages}
+use Rattle.backup_restoring.specs.Restores.{payload_pages, directory_length, version_pages, array_pages}
 use Rattle.backup_restoring.specs.Inner.Layout.{pages_from, laid, entry_at, directory_at, behind_payloads, blob_at, array_at}
 use Rattle.backup_restoring.proofs.Laid.{length_from, all_from}
 

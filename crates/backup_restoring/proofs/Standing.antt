@@ -1,22 +1,19 @@
 -- A file that holds what is restored of a database's pieces stands for that database.
-use Rattle.std.proofs.Common.{◌≡◌, ℕ, ◌+◌, ◌^◌, ◌<◌, ◌≤◌, true, List, [], ◌∷◌, map, length, Result, Ok, refl, sym, ◌∙◌, ap, subst, arith}
-use Rattle.std.specs.Prelude.{sum_by}
+use Rattle.std.proofs.Common.{◌≡◌, ℕ, ◌+◌, ◌^◌, ◌<◌, List, [], ◌∷◌, map, length, Result, Ok, refl, sym, ◌∙◌, ap, subst, arith}
 use Rattle.std.specs.List.{AllByRecursion, AllZip}
 use Rattle.cell_values.specs.declared.datum.Row.{Row}
 use Rattle.cell_values.specs.declared.schema.Schema.{Schema}
 use Rattle.array_rows.specs.Arrays.{AreRowsOf}
 use Rattle.array_geom.specs.Geometry.{ChunkNumber}
-use Rattle.array_geom.specs.Link.{is_listed, has_cell}
+use Rattle.array_geom.specs.Link.{is_listed}
 use Rattle.array_geom.proofs.NearLemmas.{valid_placed}
 use Rattle.logical_plan.specs.Typing.{AreSound}
 use Rattle.logical_plan.specs.declared.names.NameEntry.{NameEntry}
-use Rattle.logical_plan.specs.declared.names.Names.{Names}
-use Rattle.plan_changes.specs.Databases.{Database, Stored, Version, HoldsArrays as HoldsRows, entry_of, names_of}
+use Rattle.plan_changes.specs.Databases.{Database, Version, HoldsArrays as HoldsRows, entry_of, names_of}
 use Rattle.plan_changes.specs.Stored.{AreStored, IsDatabase}
 use Rattle.chunk_rle.specs.Frames.{frame_of}
 use Rattle.chunk_rle.specs.Chunks.{chunk_payload}
 use Rattle.page_chain.specs.Opens.{OpensAs}
-use Rattle.page_chain.specs.Pages.{page_size, blob}
 use Rattle.page_chain.specs.Standing.{root_in}
 use Rattle.page_chain.specs.declared.slots.layout.sides.Side.{Side}
 use Rattle.page_chain.specs.declared.slots.layout.sides.Format.TheVariants.{Two}
@@ -27,18 +24,18 @@ use Rattle.version_catalog.specs.Catalogs.{IsCatalog, names_in}
 use Rattle.file_meaning.specs.Slots.{slots_in}
 use Rattle.file_meaning.specs.Opening.{found_in, opened}
 use Rattle.file_meaning.specs.Premises.{slots_of}
-use Rattle.file_meaning.specs.Standing.{HoldsPart, HoldsVersion, HoldsVersions as StandsAs, HoldsDatabase, HoldsFound, Stands}
+use Rattle.file_meaning.specs.Standing.{HoldsPart, HoldsVersion, HoldsVersions as StandsAs, HoldsFound, Stands}
 use Rattle.file_meaning.specs.declared.meaning.found.Found.{Found}
 use Rattle.file_meaning.proofs.Counts.{counts_agree}
 use Rattle.file_meaning.proofs.SlotLaws.{slots_are}
 use Rattle.file_meaning.proofs.Steps.{then_is}
-use Rattle.backup_format.specs.Pieces.{Piece, PiecesVersion, PiecesArray, rising_numbers, stored_payload, piece_of, version_of, array_of, pieces_of}
+use Rattle.backup_format.specs.Pieces.{PiecesVersion, rising_numbers, piece_of, version_of, array_of, pieces_of}
 use Rattle.backup_format.specs.Laws.{AreArrays}
 use Rattle.backup_format.proofs.RisingNumbers.{numbers_listed}
 use Rattle.backup_meaning.specs.Meaning.{AreReadAsStored}
 use Rattle.backup_meaning.proofs.Fitting.{versions_fit}
 use Rattle.backup_restoring.specs.Restores.{payload_pages, version_pages, array_pages}
-use Rattle.backup_restoring.specs.Inner.Layout.{pages_from, laid, entry_at, directory_at, array_at, row_at, catalog_of, rows_of, behind_versions, chain_of, log_of, root_of, HoldsPayloads, HoldsPieces, HoldsVersions, HoldsArrays, HoldsRestored}
+use Rattle.backup_restoring.specs.Inner.Layout.{laid, entry_at, directory_at, array_at, row_at, catalog_of, rows_of, behind_versions, chain_of, log_of, root_of, HoldsPayloads, HoldsPieces, HoldsVersions, HoldsArrays, HoldsRestored}
 use Rattle.backup_restoring.proofs.Claims.{is_held}
 use Rattle.backup_restoring.proofs.Rules.{arrays_have_versions, have_directories}
 use Rattle.backup_restoring.proofs.Found.{finds_restored}

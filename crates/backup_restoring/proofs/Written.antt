@@ -1,8 +1,7 @@
 -- Writing one part behind another.
-use Rattle.std.proofs.Common.{◌≡◌, ◌≢◌, ℕ, zero, suc, ◌+◌, ◌-◌, ◌*◌, ◌<◌, ◌≤◌, List, [], ◌∷◌, ◌++◌, length, slice_index, take, drop, refl, sym, ◌∙◌, ap, subst, arith}
+use Rattle.std.proofs.Common.{◌≡◌, ℕ, ◌+◌, ◌-◌, ◌*◌, ◌<◌, ◌≤◌, List, [], ◌∷◌, ◌++◌, length, slice_index, drop, sym, ◌∙◌, ap, subst, arith}
 use Rattle.std.specs.Prelude.{sum_by}
 use Rattle.std.proofs.lemmas.List.Sums.{sum_by_push}
-use Rattle.afl_outside.specs.Counts.{Rose}
 use Rattle.afl_outside.specs.Disk.{DiskState, DiskGoesOn, Moment}
 use Rattle.page_chain.specs.Places.{IsNone, KeepsPages}
 use Rattle.page_chain.specs.Pages.{page_size, HoldsBlob}
@@ -10,14 +9,13 @@ use Rattle.page_chain.specs.declared.slots.slots.slots.Slots.{Slots}
 use Rattle.page_chain.proofs.Kept.{size_is, keeps_self, keeps_on, keeps_more, page_kept}
 use Rattle.page_chain.proofs.RunLemmas.{stands, goes, rose_on}
 use Rattle.page_chain.proofs.WriteLemmas.{length-piece}
-use Rattle.page_file.specs.Moments.{IsKnown}
 use Rattle.page_file.specs.Written.{MayWrite}
 use Rattle.page_file.specs.Start.{first_root}
 use Rattle.page_chain.specs.declared.slots.layout.roots.Root.{Root}
-use Rattle.backup_format.specs.Pieces.{Piece, PiecesVersion, PiecesArray}
+use Rattle.backup_format.specs.Pieces.{Piece, PiecesArray}
 use Rattle.chunk_map.specs.Spelling.{spelling as directory_spelling}
 use Rattle.backup_restoring.specs.Restores.{payload_pages, directory_pages, version_pages, array_pages}
-use Rattle.backup_restoring.specs.Inner.Layout.{pages_from, laid, AllLaid, behind_payloads, directory_at, HoldsPayload, HoldsPayloads, HoldsPieces, HoldsVersions, HoldsArray, HoldsArrays}
+use Rattle.backup_restoring.specs.Inner.Layout.{pages_from, laid, AllLaid, behind_payloads, directory_at, HoldsPayload, HoldsPayloads, HoldsPieces, HoldsArray, HoldsArrays}
 use Rattle.backup_restoring.specs.Inner.Writing.{IsDiskFault, Fails, AwaitsBase, Writes, Lays}
 use Rattle.backup_restoring.specs.declared.fault.RestoreFault.{RestoreFault}
 use Rattle.backup_restoring.specs.declared.fault.RestoreFault.TheVariants as faults

@@ -1,6 +1,6 @@
 -- Where a restored database lies: from page 3 on the payloads of each version, one after the other, and its directory behind them; then the
 -- catalogue's chain, and the log page.
-use Rattle.std.specs.Prelude.{◌≡◌, ℕ, zero, suc, ◌+◌, ◌<◌, ◌^◌, List, [], ◌∷◌, map, length, slice_index, sum_by}
+use Rattle.std.specs.Prelude.{ℕ, zero, suc, ◌+◌, ◌<◌, ◌^◌, List, [], ◌∷◌, map, length, slice_index, sum_by}
 use Rattle.page_chain.specs.Pages.{page_size, pages_for, HoldsBlob}
 use Rattle.page_chain.specs.Chains.{content_size, HoldsChain}
 use Rattle.page_chain.specs.declared.slots.layout.roots.Root.{Root}

@@ -1,6 +1,6 @@
-use Rattle.std.proofs.Common.{ℕ, List, ◌∷◌, [], ◌++◌, sym, ◌∙◌, ap}
+use Rattle.std.proofs.Common.{◌∙◌}
 use Rattle.backup_format.specs.declared.versions.VersionPiecesAt.{VersionPiecesAt}
-use Rattle.backup_restoring.proofs.Sums.{map_taken, map_whole}
+use Rattle.backup_restoring.proofs.Sums.{map_whole}
 use Rattle.backup_restoring.proofs.arrays.numbers.Goals as goal
 
 pub returns : goal.returns

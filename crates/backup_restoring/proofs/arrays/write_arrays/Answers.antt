@@ -1,12 +1,9 @@
-use Rattle.std.proofs.Common.{◌≡◌, ◌+◌, ◌++◌, ◌∷◌, [], ℕ, List, length, map, take, ◌∙◌, ap, subst, arith}
-use Rattle.std.specs.Prelude.{sum_by}
-use Rattle.chunk_map.specs.declared.directory.DirEntry.{DirEntry}
+use Rattle.std.proofs.Common.{◌+◌, List, map, take, subst, arith}
 use Rattle.backup_format.specs.Pieces.{PiecesArray}
 use Rattle.backup_format.specs.PiecePlaces.{array_in}
 use Rattle.backup_restoring.specs.Restores.{array_pages}
 use Rattle.backup_restoring.specs.Inner.Layout.{array_at, HoldsArray}
 use Rattle.backup_restoring.specs.Inner.Writing.{Lays}
-use Rattle.backup_restoring.proofs.Laid.{length_from}
 use Rattle.backup_restoring.proofs.Sums.{map_taken, map_whole, sum_part}
 use Rattle.backup_restoring.proofs.Written.{array_stays, lays_none, lays_more}
 use Rattle.backup_restoring.proofs.arrays.write_arrays.Goals as goal

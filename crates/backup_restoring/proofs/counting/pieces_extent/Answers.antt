@@ -1,4 +1,4 @@
-use Rattle.std.proofs.Common.{◌≡◌, map, refl, sym, ◌∙◌, ap}
+use Rattle.std.proofs.Common.{◌∙◌}
 use Rattle.backup_format.specs.PiecePlaces.{piece_in}
 use Rattle.backup_restoring.specs.Restores.{payload_pages, entry_length}
 use Rattle.backup_restoring.proofs.Sums.{sum_taken, sum_whole}

@@ -1,4 +1,4 @@
-use Rattle.std.proofs.Common.{◌+◌, ◌≤◌, ◌^◌, ℕ, List, IsTrue, IfSome, sym, subst, arith}
+use Rattle.std.proofs.Common.{◌+◌, ◌≤◌, ◌^◌, List, IsTrue, IfSome, sym, subst, arith}
 use Rattle.std.specs.Prelude.{OnOk}
 use Rattle.page_chain.proofs.RunLemmas.{stands}
 use Rattle.page_file.proofs.PageReads.{syncs_none}

@@ -1,4 +1,4 @@
-use Rattle.std.proofs.Common.{◌≡◌, ◌+◌, ℕ, List, length, ◌∙◌, subst}
+use Rattle.std.proofs.Common.{◌≡◌, ◌+◌, List, length, ◌∙◌, subst}
 use Rattle.file_items.specs.Pages.{pages_needed}
 use Rattle.page_chain.specs.Pages.{page_size, HoldsBlob}
 use Rattle.backup_format.specs.PiecePlaces.{pieces_in, version_in}

@@ -1,12 +1,9 @@
-use Rattle.std.proofs.Common.{◌≡◌, ◌+◌, ◌++◌, ◌∷◌, [], ℕ, List, length, map, take, ◌∙◌, ap, subst, arith}
-use Rattle.std.specs.Prelude.{sum_by}
-use Rattle.chunk_map.specs.declared.directory.DirEntry.{DirEntry}
+use Rattle.std.proofs.Common.{◌+◌, List, map, take, subst, arith}
 use Rattle.backup_format.specs.Pieces.{PiecesVersion}
 use Rattle.backup_format.specs.PiecePlaces.{version_in}
 use Rattle.backup_restoring.specs.Restores.{version_pages}
 use Rattle.backup_restoring.specs.Inner.Layout.{blob_at, HoldsPieces}
 use Rattle.backup_restoring.specs.Inner.Writing.{Lays}
-use Rattle.backup_restoring.proofs.Laid.{length_from}
 use Rattle.backup_restoring.proofs.Sums.{map_taken, map_whole, sum_part}
 use Rattle.backup_restoring.proofs.Written.{pieces_stay, lays_none, lays_more}
 use Rattle.backup_restoring.proofs.versions.write_versions.Goals as goal
