@@ -4,6 +4,7 @@
 #![tactic(auto)]
 
 mod catalogs;
+mod checks;
 mod digits;
 mod directories;
 mod opens;

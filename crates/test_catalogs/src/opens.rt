@@ -97,7 +97,7 @@ fn push_disk<D: Disk + Drop>(out: &mut Transcript, disk: D) {
 }
 
 /// A disk with a file as some words change it.
-fn changed_disk(alloc: Global, file: &Bytes, changes: &str) -> Result<MemDisk, Memory> {
+pub(crate) fn changed_disk(alloc: Global, file: &Bytes, changes: &str) -> Result<MemDisk, Memory> {
     disk_of(alloc, changed(file, changes, true)?, None)
 }
 

@@ -12,6 +12,7 @@
 //! that line: `12296:01` puts bytes at a place, and `..20479` cuts it.
 
 use crate::catalogs::{push_by, push_catalog, push_cuts, push_record};
+use crate::checks::push_checked;
 use crate::digits::{change_all, changed, front_of, many, put, zeros};
 use crate::directories::{push_directory, push_replaced};
 use crate::opens::push_opened;
@@ -83,6 +84,7 @@ pub(crate) fn push_line(out: &mut Transcript, bytes: &mut Bytes, line: &str) {
     let (word, behind) = front_of(line);
     match word {
         "bytes" | "many" | "pages" | "at" => out.note(renew(bytes, word, behind).is_ok()),
+        "check" => push_checked(out, bytes, behind),
         "open" => push_opened(out, bytes, behind),
         word => push_told(out, bytes, word, behind),
     }
