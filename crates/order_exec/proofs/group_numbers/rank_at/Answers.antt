@@ -1,0 +1,18 @@
+use Rattle.std.proofs.Common.{pos, ◌+◌, ℕ, ℤ, [], List, map, sym, ap, ◌∙◌, subst}
+use Rattle.std.proofs.lemmas.List.{get_or_read}
+use Rattle.cell_values.specs.declared.datum.Datum.TheVariants.{Int}
+use Rattle.logical_plan.specs.Ordered.{below}
+use Rattle.order_exec.specs.Inner.Ranked.{AreInOrder}
+use Rattle.order_exec.proofs.KeyedLaws.{at_place}
+use Rattle.order_exec.proofs.group_numbers.rank_at.Goals as goal
+
+pub count_less-before-requires : goal.count_less-before-requires
+count_less-before-requires c =
+    subst (λ (ns : List ℤ). AreInOrder (map Int ns)) (sym c.as_slice.ensures)
+    (at_place (λ (ns : List ℤ). AreInOrder (map Int ns)) c.args.groups.now c.args.place c.index-groups-place.result c.requires.order c.requires.inside c.index-groups-place.is)
+
+pub returns : goal.returns
+returns c =
+    c.number_after.ensures
+    ∙ ap (λ (k : ℕ). pos (1 + k)) (c.count_less-before.ensures
+    ∙ ap (λ (ns : List ℤ). below (Int c.args.number.now) (map Int ns)) (c.as_slice.ensures ∙ get_or_read c.args.groups.now c.args.place c.index-groups-place.result c.requires.inside c.index-groups-place.is []))
