@@ -285,7 +285,6 @@ module _ (x : ℕ) (dims : List ℕ) (grid : Grid) (all : List Row) (groups : Li
         ap (λ (rows : List Row). placed (coordinate_in low lengths s) (ranked_number n (number_rank groups t n)) ∷ rows) (ranked_all positions cells places ns (omega (arith, same)) h.1 (ap (λ (vs : List Datum). drop 1 vs) e))
         ∙ ap (λ (o : Option Cell). put_first (coordinate_in low lengths s) o (cell_wise (rank_cell x dims all) (rows_in low lengths positions cells))) (sym one)
 
-
 -- ---- the parts of a ranked array
 
 pairs_full : {A B C : Type 0} (f : A → B → C) (xs : List A) (ys : List B) → length ys ≡ length xs → length (by_pairs f xs ys) ≡ length xs

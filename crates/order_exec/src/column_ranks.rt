@@ -25,7 +25,7 @@ use area_cells::{array_of_parts, no_margins};
 use array_geom::{Chunk, ChunkedArray, margins_of};
 use cell_values::{Bounds, Memory, Schema};
 
-/// At least how many cells the cores of chunks have, if these can be numbered.
+/// How many cells chunks hold, if these can be numbered.
 fn count_cells(chunks: &[Chunk]) -> Option<u64>
     ensures { IfSome result (λ count. (dims : Items Dimension) (margins : Items ℕ) → length (core_rows dims margins chunks.now) < 2 ^ 62) }
 {

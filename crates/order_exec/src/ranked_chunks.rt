@@ -65,7 +65,7 @@ fn take_chunk(
     ensures { IfOk result (λ taken. IsTrue taken → (earlier : Items Placed)
         → HoldNumbers ranking.now.attribute ranking.now.to.now.dims.now ranking.now.to.now.grid.now earlier groups.old.items
         → HoldNumbers ranking.now.attribute ranking.now.to.now.dims.now ranking.now.to.now.grid.now
-            (earlier ++ chunk_rows ranking.now.schema.now.dimensions ranking.now.margins.now.items chunk.now) groups.new.items) }
+        (earlier ++ chunk_rows ranking.now.schema.now.dimensions ranking.now.margins.now.items chunk.now) groups.new.items) }
 {
     let Some(numbers) = chunk.cells.numbers(ranking.attribute as usize) else {
         return Ok(false);
@@ -105,10 +105,7 @@ fn ranked_cells(alloc: Global, numbers: &[i64], ranks: List<i64>) -> Result<Cell
     let mut columns = List::with_capacity(alloc, 2)?;
     columns.push(Column::from_numbers(List::from_slice(alloc, numbers)?))?;
     columns.push(Column::from_numbers(ranks))?;
-    Ok(Cells::from_rows(
-        alloc,
-        Rows::from_columns(columns.into_vec(), numbers.len()),
-    ))
+    Ok(Cells::from_rows(alloc, Rows::from_columns(columns.into_vec(), numbers.len())))
 }
 
 /// The chunk with the numbers and the ranks of a chunk's cells, if all its values are numbers whose groups have places.

@@ -25,7 +25,7 @@ ranks_of-requires-clause-each c =
     let sides = c.args.ranking.now.schema.now.dimensions in
     let margins = c.args.ranking.now.margins.now.items in
     let have = subst (HaveGroups dims grid (frame_grid sides margins c.args.chunk.now) c.args.chunk.now.positions) (sym c.as_slice.ensures)
-        (subst (λ (o : Option (List ℕ)). IfSome o (HaveGroups dims grid (frame_grid sides margins c.args.chunk.now) c.args.chunk.now.positions)) c.in-Some-2.is c.in_ok-places.ensures) in
+    (subst (λ (o : Option (List ℕ)). IfSome o (HaveGroups dims grid (frame_grid sides margins c.args.chunk.now) c.args.chunk.now.positions)) c.in-Some-2.is c.in_ok-places.ensures) in
     as_many_numbers x dims grid sides margins c.args.chunk.now c.as_slice.result.now c.in-Some.numbers.now c.requires.places.placed (record { have = have; values = c.in-Some.ensures })
 
 pub ranked_cells-requires : goal.ranked_cells-requires
@@ -36,10 +36,10 @@ ranked_cells-requires c =
     let sides = c.args.ranking.now.schema.now.dimensions in
     let margins = c.args.ranking.now.margins.now.items in
     let have = subst (HaveGroups dims grid (frame_grid sides margins c.args.chunk.now) c.args.chunk.now.positions) (sym c.as_slice.ensures)
-        (subst (λ (o : Option (List ℕ)). IfSome o (HaveGroups dims grid (frame_grid sides margins c.args.chunk.now) c.args.chunk.now.positions)) c.in-Some-2.is c.in_ok-places.ensures) in
+    (subst (λ (o : Option (List ℕ)). IfSome o (HaveGroups dims grid (frame_grid sides margins c.args.chunk.now) c.args.chunk.now.positions)) c.in-Some-2.is c.in_ok-places.ensures) in
     ap length c.in_ok-ranks.ensures
     ∙ as_many_ranks c.args.groups.now c.as_slice.result.now c.in-Some.numbers.now
-      (as_many_numbers x dims grid sides margins c.args.chunk.now c.as_slice.result.now c.in-Some.numbers.now c.requires.places.placed (record { have = have; values = c.in-Some.ensures }))
+    (as_many_numbers x dims grid sides margins c.args.chunk.now c.as_slice.result.now c.in-Some.numbers.now c.requires.places.placed (record { have = have; values = c.in-Some.ensures }))
 
 pub returns : goal.returns
 returns c =
@@ -48,7 +48,7 @@ returns c =
     let sides = c.args.ranking.now.schema.now.dimensions in
     let margins = c.args.ranking.now.margins.now.items in
     let have = subst (HaveGroups dims grid (frame_grid sides margins c.args.chunk.now) c.args.chunk.now.positions) (sym c.as_slice.ensures)
-        (subst (λ (o : Option (List ℕ)). IfSome o (HaveGroups dims grid (frame_grid sides margins c.args.chunk.now) c.args.chunk.now.positions)) c.in-Some-2.is c.in_ok-places.ensures) in
+    (subst (λ (o : Option (List ℕ)). IfSome o (HaveGroups dims grid (frame_grid sides margins c.args.chunk.now) c.args.chunk.now.positions)) c.in-Some-2.is c.in_ok-places.ensures) in
     record {
       at = c.copy_numbers.ensures;
       positions = c.in_ok-from_slice.ensures ∙ c.as_slice-2.ensures;

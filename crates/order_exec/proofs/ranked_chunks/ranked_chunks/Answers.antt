@@ -18,7 +18,7 @@ loop-k-preserved c =
     let ranking = c.args.ranking.now in
     let R = IsRanked ranking.attribute ranking.to.now.dims.now ranking.to.now.grid.now ranking.schema.now.dimensions ranking.margins.now.items c.args.groups.now in
     next_ranked R c.args.chunks.now c.loop-k.k c.index-chunks-k.result c.loop-k.made c.push.new.self c.in-Some.ranked c.loop-k-test.true c.index-chunks-k.is c.loop-k.invariant
-    (subst (λ (o : Option Chunk). IfSome o (R c.index-chunks-k.result)) c.in-Some.is c.in_ok-ranked_chunk.ensures) c.in_ok-push-in-Some.ensures.ok
+    (subst (λ (o : Option Chunk). IfSome o (R c.index-chunks-k.result)) c.in-Some.is c.in_ok-ranked.ensures) c.in_ok-push-in-Some.ensures.ok
 
 pub returns : goal.returns
 returns c =

@@ -23,7 +23,7 @@ take_numbers-requires-clause-each c =
     let sides = c.args.ranking.now.schema.now.dimensions in
     let margins = c.args.ranking.now.margins.now.items in
     let have = subst (HaveGroups dims grid (frame_grid sides margins c.args.chunk.now) c.args.chunk.now.positions) (sym c.as_slice.ensures)
-        (subst (λ (o : Option (List ℕ)). IfSome o (HaveGroups dims grid (frame_grid sides margins c.args.chunk.now) c.args.chunk.now.positions)) c.in-Some-2.is c.in_ok-places.ensures) in
+    (subst (λ (o : Option (List ℕ)). IfSome o (HaveGroups dims grid (frame_grid sides margins c.args.chunk.now) c.args.chunk.now.positions)) c.in-Some-2.is c.in_ok-places.ensures) in
     as_many_numbers x dims grid sides margins c.args.chunk.now c.as_slice.result.now c.in-Some.numbers.now c.requires.places.placed (record { have = have; values = c.in-Some.ensures })
 
 pub returns : goal.returns
@@ -34,6 +34,6 @@ returns c = λ yes earlier held.
     let sides = c.args.ranking.now.schema.now.dimensions in
     let margins = c.args.ranking.now.margins.now.items in
     let have = subst (HaveGroups dims grid (frame_grid sides margins c.args.chunk.now) c.args.chunk.now.positions) (sym c.as_slice.ensures)
-        (subst (λ (o : Option (List ℕ)). IfSome o (HaveGroups dims grid (frame_grid sides margins c.args.chunk.now) c.args.chunk.now.positions)) c.in-Some-2.is c.in_ok-places.ensures) in
+    (subst (λ (o : Option (List ℕ)). IfSome o (HaveGroups dims grid (frame_grid sides margins c.args.chunk.now) c.args.chunk.now.positions)) c.in-Some-2.is c.in_ok-places.ensures) in
     chunk_taken x dims grid sides margins c.args.chunk.now c.as_slice.result.now c.in-Some.numbers.now earlier c.args.groups.now.items c.take_numbers.new.groups.items c.requires.to.grid_is c.requires.places.placed
     (record { have = have; values = c.in-Some.ensures }) c.in_ok-take_numbers.ensures held
