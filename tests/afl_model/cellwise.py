@@ -97,8 +97,9 @@ def subarray(call, arguments, stored):
     if any(high - low > UNBOUNDED for low, high in box):
         raise TypeRefusal(call.span, 'bounds range')
     lows = [low for low, _ in box]
-    schema = Schema(source.schema.attributes, [
-        d._replace(low=0, high=high - low) for d, (low, high) in zip(source.schema.dimensions, box)])
+    dimensions = [d._replace(low=0, high=high - low)
+                  for d, (low, high) in zip(source.schema.dimensions, box)]
+    schema = Schema(source.schema.attributes, dimensions)
 
     def cells():
         return {tuple(x - low for x, low in zip(at, lows)): cell

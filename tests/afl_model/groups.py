@@ -4,8 +4,7 @@ from math import prod
 from .arguments import (aggregate_attributes, aggregates_of, count_while, is_aggregate, is_name,
                         is_number, is_schema, places_of, total, totals, want_at_least, want_sort,
                         want_sorts)
-from .plans import (Plan, fit_nulls, is_hollow, is_inside, meet, needs_unless_hollow, operator,
-                    plan)
+from .plans import Plan, fit_nulls, is_inside, meet, needs_unless_hollow, operator, plan
 from .schemas import MAX_FRAME, Schema, within_limits, written_schema
 from .values import CellRefusal, TypeRefusal, is_fault, is_null
 

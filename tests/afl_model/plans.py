@@ -84,7 +84,7 @@ def coordinates(box):
 
 
 def needs_unless_hollow(source, box_of):
-    """The needs of an operator whose box needs box_of(box) of the source, and nothing if hollow."""
+    """For a box it needs box_of(box) of the source, and nothing for a hollow one."""
     def needs(box):
         return source.needs_nothing() if is_hollow(box) else source.needs(box_of(box))
     return needs
