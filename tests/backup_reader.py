@@ -16,7 +16,7 @@ MARK = b'AFLDUMP1'
 
 
 def read_backup(data):
-    """The arrays of a backup, by name; raises WrongItem with the offset of the first wrong item."""
+    """The arrays of a backup, by name; raises WrongItem at its first wrong item."""
     items = Items(data)
     items.require(items.take(len(MARK)) == MARK)
     arrays, name = {}, None

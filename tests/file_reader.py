@@ -163,16 +163,13 @@ class FileReader:
             array.versions = {n: d for n, d in array.versions.items() if n >= bound}
 
     def blob(self, owner, length, pages, holder):
-        """The bytes of a blob, whose pages belong to it alone."""
-        before = self.owners.get(pages[0])
-        for place, number in enumerate(pages):
-            repeated = number in pages[:place] or self.owners.get(number, before) != before
-            if not self.is_page(number) or number in self.chained or repeated:
-                raise WrongPage(holder)
-        if before not in (None, owner):
-            raise WrongPage(holder)
-        for number in pages:
-            self.owners[number] = owner
+        """The bytes of a blob; its pages belong to it alone, and versions may share it."""
+        if self.owners.get(pages[0]) != owner:
+            for number in pages:
+                taken = number in self.chained or number in self.owners
+                if taken or not self.is_page(number):
+                    raise WrongPage(holder)
+                self.owners[number] = owner
         return b''.join(map(self.page, pages))[:length]
 
     def version(self, name, number, array, catalogue_page, sequence):

@@ -1,4 +1,6 @@
 """Random schemas, expressions and queries, as texts of the language."""
+from math import prod
+
 from afl_model.parsing import parse
 from afl_model.plans import plan, refuse_faults
 from afl_model.schemas import UNBOUNDED, Dimension, Schema
@@ -17,6 +19,7 @@ ORDERED = ('sort', 'rank', 'transpose', 'reverse', 'unpack', 'xgrid')
 OPERATORS = CELLWISE + GROUPED + PAIRED + ORDERED
 MOST_BYTES = 900
 MOST_CELLS = 250
+MOST_PARTNERED = 100     # places of an array in all dimensions but the first
 
 
 class Generator:
@@ -116,7 +119,8 @@ class Generator:
         taken = [d.name for d in dimensions]
         names = [name for name in ATTRIBUTES if name not in taken]
         attributes = list(zip(names, kinds))
-        if len(dimensions) == 1 and (self.chance(.5) or dimensions[0].high == UNBOUNDED):
+        length = dimensions[0].high - dimensions[0].low + 1
+        if len(dimensions) == 1 and (self.chance(.5) or length > MOST_CELLS):
             return self.written_out(attributes, dimensions[0])
         axes = [(name, 'int64') for name in taken]
         first = Schema([(*attributes[0], True)], dimensions)
@@ -139,7 +143,8 @@ class Generator:
 
     def partner(self, schema, first=None):
         """An array with the types and bounds of a schema, but for the first dimension."""
-        if self.chance(.15):
+        volume = prod(high - low + 1 for low, high in schema.bounds[1:])
+        if self.chance(.15) or volume > MOST_PARTNERED:
             return self.source()
         dimensions = []
         for place, old in enumerate(schema.dimensions):
@@ -148,8 +153,6 @@ class Generator:
             new = first if first and place == 0 else old
             name = old.name + self.rng.choice(('', '_'))
             dimensions.append(Dimension(name, new.low, new.high, chunk, overlap))
-        if len(dimensions) > 1 and any(d.high == UNBOUNDED for d in dimensions):
-            return self.source()
         return self.built(dimensions, schema.types)
 
     # Operators: each method is named after one, and puts it over a query with this schema.
