@@ -56,6 +56,7 @@ class Kills:
             scripts.append(script.steps(self.statements))
             names.append(f's{number}')
             self.program.write(names[-1], script_text(scripts[-1]))
+            self.program.write(names[-1] + '.out', '')
         self.killed += run_until_killed(self.program, self.rng, names)
         try:
             database = read_database(self.program)
