@@ -1,4 +1,10 @@
-"""Reads a backup, from docs/FORMAT.md alone: prints it, or compares it with a database file.
+"""Reads a backup: prints it, or compares it with a database file.
+
+A backup is `AFLDUMP1`; the number of arrays, u32; of each array by name its name, schema and
+next number as in a catalogue, the number of its versions, u32, and of each version its number,
+u32, the number of its chunks, u64, and of each chunk, in the order of a directory, its numbers,
+the length of its payload and the payload, the numbers u64; and last the SHA-256 of all bytes
+before.
 
 Prints each array with its versions and their cells, or the first wrong byte, with status 1.
 With --file the backup's arrays, versions and cells are compared with the file's; the status is

@@ -37,26 +37,23 @@ def is_reply(block):
 
 
 def examples_of(page):
-    """The examples of a page, and the blocks that are none."""
+    """The examples of a page, and how many of its blocks are in none."""
     lines = page.split('\n')
-    found, others, script = [], [], None
-    for block in blocks_of(lines):
+    found, script, blocks = [], None, blocks_of(lines)
+    for block in blocks:
         if script and is_reply(block) and block.first - script.last < NEAR:
             between = ' '.join(lines[script.last:block.first])
             found.append(Example(script.first + 1, '\n'.join(script.lines) + '\n',
                                  '\n'.join(block.lines) + '\n', 'under `--trace`' in between))
             script = None
-            continue
-        others += [script] if script else []
-        script = block
-        if is_reply(block):
-            others.append(block)
-            script = None
+        else:
+            script = None if is_reply(block) else block
+    others = len(blocks) - 2 * len(found)
     for number, line in enumerate(lines, 1):
         match = re.match(r'- `(.*)` is answered `(.*)`$', line)
         if match:
             found.append(Example(number, match[1], match[2] + '\n', False))
-    return found, others + ([script] if script else [])
+    return found, others
 
 
 def outcome(program, example):
@@ -81,9 +78,7 @@ def run(program, page):
             wrong += 1
             print(f'line {example.line}: {example.script}')
             print(f'  page    {expected}\n  program {found}')
-    for block in others:
-        print(f'not run, line {block.first + 1}: {block.lines[0]}')
-    print(f'{len(examples)} examples, {wrong} answered otherwise')
+    print(f'{len(examples)} examples, {wrong} answered otherwise; {others} other blocks')
     return wrong
 
 
