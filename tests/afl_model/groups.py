@@ -4,7 +4,8 @@ from math import prod
 from .arguments import (aggregate_attributes, aggregates_of, count_while, is_aggregate, is_name,
                         is_number, is_schema, places_of, total, totals, want_at_least, want_sort,
                         want_sorts)
-from .plans import Plan, fit_nulls, is_inside, meet, needs_unless_hollow, operator, plan
+from .plans import (Plan, coordinates, fit_nulls, is_inside, meet, needs_unless_hollow, operator,
+                    plan)
 from .schemas import MAX_FRAME, Schema, within_limits, written_schema
 from .values import CellRefusal, TypeRefusal, is_fault, is_null
 
@@ -100,6 +101,8 @@ def window(call, arguments, stored):
 
         def near(at):
             box = [(x - back, x + ahead) for x, (back, ahead) in zip(at, reaches)]
+            if places <= len(order):
+                return [made[other] for other in coordinates(box) if other in made]
             return [made[other] for other in order if is_inside(other, box)]
         return {at: made[at] if is_fault(made[at]) else [total(a, near(at)) for a in found]
                 for at in order}
