@@ -278,10 +278,21 @@ class Generator:
                 query = self.source()
                 for name in others:
                     query = getattr(self, name)(query, self.schema_of(query))
+                    if self.is_large(query):
+                        break
+                else:
+                    name = None
             except TypeRefusal:
                 continue
-            if len(query) <= MOST_BYTES and self.is_worth(query):
+            if name is None and len(query) <= MOST_BYTES and self.is_worth(query):
                 return query
+
+    def is_large(self, query):
+        """Whether the model would be slow over the query's cells."""
+        try:
+            return len(plan(parse(query), self.arrays).cells()) > 4 * MOST_CELLS
+        except Refusal:
+            return False
 
     def is_worth(self, query):
         """Whether the reply is small, and seldom a refusal or without cells."""
