@@ -15,7 +15,7 @@ from program import program_in_folder
 from session_scripts import (MOST_SESSIONS, START, Script, Shared, check_replies, new_models,
                              own_differences, read_database, script_text, shared_differences)
 
-LONGEST = 1.5       # seconds until a kill
+LONGEST = 0.5       # seconds until a kill
 
 
 def run_until_killed(program, rng, names):
@@ -105,7 +105,7 @@ def main():
     parser.add_argument('--runs', type=int, default=10)
     parser.add_argument('--sessions', type=int, default=4, choices=range(1, MOST_SESSIONS + 1),
                         metavar='N', help=f'at most {MOST_SESSIONS} (4)')
-    parser.add_argument('--statements', type=int, default=400, help='of each session (400)')
+    parser.add_argument('--statements', type=int, default=100, help='of each session (100)')
     parser.add_argument('--seed', type=int, default=1)
     words = parser.parse_args()
     with program_in_folder(words.program) as program:
