@@ -1,14 +1,14 @@
 -- What a cache holds after a get and a put.
 use Rattle.std.proofs.Common.{◌≡◌, ◌<◌, ◌⊎◌, ℕ, [], arith, inl, inr, Contains, Option, Some, None, IfSome, subst, refl}
 use Rattle.std.specs.Map.{lookup}
-use Rattle.lru.specs.LruCache.{lru_cache, promoted, put_entries}
+use Rattle.lru.specs.LruCache.{promoted, put_entries}
 use Rattle.lru.proofs.CallerLemmas.{Contains-lookup, Contains-promoted, Contains-put_entries}
 use Rattle.array_geom.specs.declared.chunk.Chunk.{Chunk}
 use Rattle.cell_values.specs.declared.schema.Schema.{Schema}
 use Rattle.chunk_map.specs.declared.directory.DirEntry.{DirEntry}
 use Rattle.chunk_cache.specs.declared.cached_chunk.CachedChunk.{CachedChunk}
 use Rattle.chunk_cache.specs.declared.cache.ChunkCache.{ChunkCache}
-use Rattle.chunk_cache.specs.Caches.{cache_map, key_of, same_key, after_get, after_put, IsFound, Holds, CacheMap, Key}
+use Rattle.chunk_cache.specs.Caches.{cache_map, empty_map, key_of, same_key, after_get, after_put, IsFound, Holds, CacheMap, Key}
 
 -- what is under a name is held
 held_there : (cache : ChunkCache) (entry : DirEntry) (one : CachedChunk) → lookup (same_key (key_of entry)) (cache_map cache).entries ≡ Some one → Holds cache one
@@ -50,7 +50,7 @@ put_or_same old new put (inl e) one has = put_holds old new put e one has
 put_or_same old new put (inr e) one has = inl (same_holds old new e one has)
 
 -- an empty one holds none
-pub empty_holds : (cache : ChunkCache) (limit : ℕ) → cache_map cache ≡ lru_cache [] limit → (one : CachedChunk) → Holds cache one → ⊥
+pub empty_holds : (cache : ChunkCache) (limit : ℕ) → cache_map cache ≡ empty_map limit → (one : CachedChunk) → Holds cache one → ⊥
 empty_holds cache limit e one has =
     let there : Contains {X = Key × CachedChunk} [] (has.0, one) = subst (λ (c : CacheMap). Contains c.entries (has.0, one)) e has.1 in
     let less : there.0 < 0 = there.1 in

@@ -21,8 +21,11 @@ same_key a b = nat_eq a.0 b.0 && nat_eq a.1 b.1
 abbrev pub CacheMap : Type 0
 CacheMap = LruCache Key CachedChunk
 
+abbrev pub empty_map : ℕ → CacheMap
+empty_map limit = lru_cache [] limit
+
 abbrev pub map_of : ℕ → Option CacheMap → CacheMap
-map_of limit None = lru_cache [] limit
+map_of limit None = empty_map limit
 map_of limit (Some entries) = entries
 
 abbrev pub cache_map : ChunkCache → CacheMap

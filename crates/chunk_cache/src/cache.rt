@@ -1,9 +1,8 @@
 //! The cache.
-ghost use Rattle.std.specs.Prelude.{◌≡◌, IfSome, ◌<◌, ◌≤◌, ◌↔◌, ◌⊎◌, [], length, Some, IfOk, OnOk, OnErr, IsTrue};
+ghost use Rattle.std.specs.Prelude.{◌≡◌, IfSome, ◌<◌, ◌≤◌, ◌↔◌, ◌⊎◌, length, Some, IfOk, OnOk, OnErr, IsTrue};
 ghost use Rattle.std.specs.Map.{lookup};
-ghost use Rattle.lru.specs.LruCache.{lru_cache};
 ghost use Rattle.chunk_cache.specs.declared.cached_chunk.CachedChunk.{CachedChunk as AChunk};
-ghost use Rattle.chunk_cache.specs.Caches.{cache_map, map_of, chunks_in, key_of, limit_of, same_key, after_get, after_put, Holds, IsFound};
+ghost use Rattle.chunk_cache.specs.Caches.{cache_map, empty_map, map_of, chunks_in, key_of, limit_of, same_key, after_get, after_put, Holds, IsFound};
 
 use crate::cached_chunk::CachedChunk;
 use crate::equality::{same_entry, same_schema};
@@ -69,7 +68,7 @@ fn chunk_of(
 
 /// Room for at most so many chunks, unless that is none or there is no memory.
 fn new_entries(alloc: Global, limit: u32) -> Option<LruCache<(u32, u64), CachedChunk>>
-    ensures { map_of limit result ≡ lru_cache [] limit }
+    ensures { map_of limit result ≡ empty_map limit }
 {
     match NonZeroUsize::new(limit as usize) {
         None => None,
@@ -121,7 +120,7 @@ fn put_copy(
 impl ChunkCache {
     /// An empty cache for at most so many chunks, none if 0. It takes no memory before the first is put.
     pub fn new(limit: u32) -> ChunkCache
-        ensures { cache_map result ≡ lru_cache [] limit }
+        ensures { cache_map result ≡ empty_map limit }
     {
         ChunkCache {
             limit,
