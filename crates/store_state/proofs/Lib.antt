@@ -7,6 +7,8 @@ mod Again
 pub mod AtOn
 pub mod Attempts
 pub mod Bases
+pub mod CacheOn
+pub mod CacheReads
 pub mod CellsOn
 pub mod Cores
 pub mod CostsBlobs

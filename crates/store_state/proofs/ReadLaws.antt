@@ -1,6 +1,6 @@
 -- The payload of a leaf's chunk, and what reading it tells.
 use Rattle.std.proofs.Common.{◌≡◌, ◌∙◌, ℕ, zero, suc, ◌+◌, ◌/◌, ◌<◌, ◌≤◌, ◌⊎◌, inl, inr, ⊎_elim, Bool, true, List, length, Option, None, Some, IfSome, IfOk, IsTrue, Result, Ok, Err, refl, ap, sym, subst, arith}
-use Rattle.std.specs.Prelude.{slice_index}
+use Rattle.std.specs.Prelude.{slice_index, IfErr}
 use Rattle.std.specs.List.{AllByRecursion, find}
 use Rattle.std.specs.Ordering.{is_eq}
 use Rattle.arrayvec.specs.ArrayVec.{ArrayVec}
@@ -14,6 +14,9 @@ use Rattle.array_geom.proofs.NearLemmas.{stored_frame}
 use Rattle.array_geom.proofs.NumberLaws.{is_equal, same_number}
 use Rattle.file_items.specs.Pages.{pages_needed}
 use Rattle.page_chain.specs.Pages.{page_size, pages_for, first_past}
+use Rattle.chunk_cache.specs.Caches.{Holds}
+use Rattle.chunk_cache.specs.declared.cache.ChunkCache.{ChunkCache}
+use Rattle.chunk_cache.specs.declared.cached_chunk.CachedChunk.{CachedChunk}
 use Rattle.chunk_map.specs.declared.directory.DirEntry.{DirEntry}
 use Rattle.chunk_map.specs.declared.directory.Directory.{Directory}
 use Rattle.chunk_map.specs.Entries.{AreRising, numbers}
@@ -45,6 +48,8 @@ use Rattle.store_versions.specs.Seen.{seen}
 use Rattle.store_versions.specs.Versions.{HaveDirectories, MadeVersion, directory_of}
 use Rattle.store_state.specs.At.{IsAt}
 use Rattle.store_state.specs.Standings.{Standing, BeganAs, versions_after}
+use Rattle.store_state.specs.Cached.{IsChunkOf, IsChunkOfAll}
+use Rattle.store_state.specs.Inner.CacheReads.{SeesCache}
 use Rattle.store_state.specs.Inner.Sights.{Sees, SeesCells, SeesPayloads}
 use Rattle.store_state.specs.Payloads.{HasItsPayloads, HasPayload, HasTold, HavePayloads, IsAsOpened, WasDamagedAt}
 use Rattle.store_state.specs.declared.state.fault.ReadFault.{ReadFault}
@@ -279,6 +284,47 @@ module _ {D : Type 0} (moment : D → Moment) (s : Standing D) (k : Keeping) (pl
     pub read_is_stored : (r : Result Chunk ReadFault) → IfOk r (IsSpelled leaf.schema) → IfOk r (λ chunk. chunk.at ≡ entry.at) → IfOk r (IsStored leaf.schema at)
     read_is_stored (Ok chunk) stored number = read_stored leaf.schema entry.at at chunk stored number read_number
     read_is_stored (Err fault) stored number = tt
+
+    -- what the cache holds of it is the part of the rows
+    pub cached_told : (chunk : Chunk) (db : Database) → names_of (at_history db before) ≡ names_at s.ledger.base before →
+        IsChunkOfAll (record { schema = leaf.schema; entry = entry; chunk = chunk }) (at_history db before) (versions_after s before) → IsChunkIn (rows_of (at_history db before)) leaf chunk
+    cached_told chunk db same all =
+        let one : CachedChunk = record { schema = leaf.schema; entry = entry; chunk = chunk } in
+        let d : Database = at_history db before in
+        let l : IsListed (names_at s.ledger.base before) (versions_after s before) leaf at = place_lists in
+        let of : IsChunkOf one d l.s.entry l.s.v × (l.s.v.name ≡ leaf.name) × (l.s.v.version ≡ suc l.n) =
+        of_version (λ (e : NameEntry) (v : MadeVersion). IsChunkOf one d e v) (names_at s.ledger.base before) (versions_after s before) leaf l.n l.s
+        (subst (λ (ns : Names). AllByRecursion (λ v. IfSome (entry_named ns.arrays v.name) (λ e. IsChunkOf one d e v)) (versions_after s before)) same all) in
+        let t : DirEntry → Bool = λ e. is_eq (number_order e.at.items at.items) in
+        let each : IsFoundIn (λ (listed : DirEntry). listed ≡ entry → chunk ≡ stored_chunk leaf.schema (rows_of d l.s.v.name l.s.v.version) entry.at.items) t l.entry =
+        found_in_all (λ (listed : DirEntry). listed ≡ entry → chunk ≡ stored_chunk leaf.schema (rows_of d l.s.v.name l.s.v.version) entry.at.items) t l.s.v.directory.entries l.entry (of.0 (sym l.s.schema)) l.found in
+        let its : rows_of d l.s.v.name l.s.v.version ≡ rows_of d leaf.name (suc l.n) = ap (λ (name : List ℕ). rows_of d name l.s.v.version) of.1 ∙ ap (rows_of d leaf.name) of.2 in
+        let is_part : chunk ≡ stored_chunk leaf.schema (version_rows (rows_of d) leaf.name leaf.version) entry.at.items =
+        each.holds the_same ∙ ap (λ (rows : List Row). stored_chunk leaf.schema rows entry.at.items) its
+        ∙ ap (λ (n : ℕ). stored_chunk leaf.schema (version_rows (rows_of d) leaf.name n) entry.at.items) (sym l.version) in
+        subst (IsPart leaf.schema.dimensions (overlaps leaf.schema.dimensions) (version_rows (rows_of d) leaf.name leaf.version)) (sym is_part)
+        (stored_part leaf.schema (version_rows (rows_of d) leaf.name leaf.version) entry.at.items (stored_frame leaf.schema entry.at.items read_valid read_core))
+
+    pub cached_tells : (r : Result Chunk ReadFault) (cache : ChunkCache) → ((db : Database) → BeganAs (moment s.opened.disk).state db → SeesCells moment s db before) → IfSome (moment s.disk).state.seen (moment s.disk).may_leave →
+        ((db : Database) → BeganAs (moment s.opened.disk).state db → SeesCache s db before cache) →
+        IfOk r (λ chunk. Holds cache (record { schema = leaf.schema; entry = entry; chunk = chunk }) ⊎ IfSome (moment s.disk).state.seen (λ seen. IsRead seen leaf.schema entry (Ok chunk))) →
+        IfOk r (λ chunk. (db : Database) → BeganAs (moment s.opened.disk).state db → IsChunkIn (rows_of (at_history db before)) leaf chunk)
+    cached_tells (Ok chunk) cache cells reads cached found = λ db began.
+        ⊎_elim (λ holds. cached_told chunk db (cells db began).names (cached db began (record { schema = leaf.schema; entry = entry; chunk = chunk }) holds)) (λ exact. read_tells (Ok chunk) cells reads exact db began) found
+    cached_tells (Err fault) cache cells reads cached found = tt
+
+    wrong_exact : (r : Result Chunk ReadFault) (page : ℕ) → r ≡ Err (Damaged page) → IfErr r (λ fault. IfSome (moment s.disk).state.seen (λ seen. IsRead seen leaf.schema entry (Err fault))) →
+        IfSome (moment s.disk).state.seen (λ seen. IsRead seen leaf.schema entry (Err (Damaged page)))
+    wrong_exact r page e wrong = subst (λ (x : Result Chunk ReadFault). IfErr x (λ fault. IfSome (moment s.disk).state.seen (λ seen. IsRead seen leaf.schema entry (Err fault)))) e wrong
+
+    pub cached_whole : (r : Result Chunk ReadFault) → ((db : Database) → BeganAs (moment s.opened.disk).state db → SeesCells moment s db before) → IfSome (moment s.disk).state.seen (moment s.disk).may_leave →
+        IfErr r (λ fault. IfSome (moment s.disk).state.seen (λ seen. IsRead seen leaf.schema entry (Err fault))) → (db : Database) (page : ℕ) → BeganAs (moment s.opened.disk).state db → r ≡ Err (Damaged page) → ⊥
+    cached_whole r cells reads wrong db page began e = read_whole (Err (Damaged page)) cells reads (wrong_exact r page e wrong) db page began refl
+
+    pub cached_damaged : (r : Result Chunk ReadFault) → ((file : List ℕ) → HasTold (moment s.opened.disk).state file → SeesPayloads moment s file before) → IfSome (moment s.disk).state.seen (moment s.disk).may_leave →
+        IfErr r (λ fault. IfSome (moment s.disk).state.seen (λ seen. IsRead seen leaf.schema entry (Err fault))) → (page : ℕ) (file : List ℕ) → r ≡ Err (Damaged page) → HasTold (moment s.opened.disk).state file →
+        WasDamagedAt page s.first file leaf.schema
+    cached_damaged r payloads reads wrong page file e began = read_damaged (Err (Damaged page)) payloads reads (wrong_exact r page e wrong) page file refl began
 
 -- the parts after a read, with a note where the count rose
 pub parts_read : {D : Type 0} (moment : D → Moment) (s : Standing D) (k : Keeping) → IsAt moment s k → (disk : D) (slots : Slots) → slots ≡ k.slots → OnlyReads (moment s.disk) (moment disk) →

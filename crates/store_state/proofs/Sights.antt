@@ -29,7 +29,10 @@ use Rattle.store_state.specs.Cells.{HoldsCells}
 use Rattle.store_state.specs.At.{IsAt}
 use Rattle.store_state.specs.Payloads.{HasTold, HavePayloads, HoldsPayloads}
 use Rattle.store_state.specs.Inner.Keeping.{Keeping, AreDirectoriesOf, LieIn}
+use Rattle.chunk_cache.specs.declared.cache.ChunkCache.{ChunkCache}
+use Rattle.store_state.specs.Cached.{IsCacheOf, IsChunkOfAll}
 use Rattle.store_state.specs.Calls.{history_at, IsLeafOf}
+use Rattle.store_state.specs.Inner.CacheReads.{SeesCache}
 use Rattle.store_state.specs.Inner.Sights.{Sees, SeesCells, SeesPayloads}
 use Rattle.store_state.proofs.Lists.{all_filter}
 
@@ -120,6 +123,14 @@ module _ {D : Type 0} (moment : D → Moment) (s : Standing D) (k : Keeping) (x 
         lies = λ image left. own_pin (λ pin. LieIn image (at db pin.before) (versions_after s pin.before)) s.ledger.base pinned.session h o.before allowed o.begun (c.images image left).pinned;
       })
 
+  pub cache_at : (pinned : Pinned) (o : IsOpenPin s.ledger pinned) (cache : ChunkCache) → IsCacheOf moment s cache → (db : Database) → BeganAs (moment s.opened.disk).state db
+      → SeesCache s db (history_at s pinned.place) cache
+  cache_at pinned o cache of db began =
+      let h : History = history s.ledger in
+      subst (λ (before : History). SeesCache s db before cache) (sym (pin_history pinned o))
+      (λ one holds. own_pin (λ pin. IsChunkOfAll one (at db pin.before) (versions_after s pin.before)) s.ledger.base pinned.session h o.before allowed o.begun
+      (of.cells db began one holds).pinned)
+
   pub payloads_now : (file : List ℕ) → HasTold (moment s.opened.disk).state file → SeesPayloads moment s file (history_at s (length (history s.ledger)))
   payloads_now file told =
       let c : HoldsPayloads moment s k file (history s.ledger) (given_of s) = x.payloads file told in
@@ -152,3 +163,8 @@ module _ {D : Type 0} (moment : D → Moment) (s : Standing D) (k : Keeping) (x 
 
   pub history_place : (n : ℕ) → n ≡ length s.ledger.entries → history_at s n ≡ history s.ledger
   history_place n e = ap (history_at s) (now_is n e) ∙ all_entries_are_the_history (history s.ledger)
+
+  pub cache_place : (n : ℕ) → n ≡ length s.ledger.entries → (cache : ChunkCache) → IsCacheOf moment s cache → (db : Database) → BeganAs (moment s.opened.disk).state db
+      → SeesCache s db (history_at s n) cache
+  cache_place n e cache of db began =
+      subst (λ (before : History). SeesCache s db before cache) (sym (history_place n e)) (λ one holds. (of.cells db began one holds).now)

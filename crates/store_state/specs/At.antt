@@ -7,6 +7,7 @@ use Rattle.store_versions.specs.Rows.{directory_in}
 use Rattle.store_versions.specs.Seen.{version_of}
 use Rattle.store_state.specs.declared.state.parts.StoreParts.{StoreParts}
 use Rattle.store_state.specs.Standings.{Standing, commit_places, given_of, BeganAs}
+use Rattle.store_state.specs.Cached.{IsCacheOf}
 use Rattle.store_state.specs.Kept.{IsKept}
 use Rattle.store_state.specs.Payloads.{HasTold, HoldsPayloads}
 use Rattle.store_state.specs.Cells.{HoldsCells}
@@ -35,5 +36,6 @@ abbrev pub keeping : {D : Type 0} → StoreParts D → Keeping
 keeping parts = record { slots = parts.file.slots; catalog = parts.catalog; rows = parts.table.rows }
 
 -- THE PARTS OF A STORE
-abbrev pub AreParts : {D : Type 0} → (D → Moment) → StoreParts D → Type 0
-AreParts moment parts = IsAt moment (standing moment parts) (keeping parts)
+pub record AreParts {D : Type 0} (moment : D → Moment) (parts : StoreParts D) : Type 0 where
+  pub at : IsAt moment (standing moment parts) (keeping parts)
+  pub cache : IsCacheOf moment (standing moment parts) parts.cache

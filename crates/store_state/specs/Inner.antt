@@ -1,3 +1,4 @@
+pub mod CacheReads
 pub mod Decoded
 pub mod Insert
 pub mod Keeping

@@ -8,6 +8,7 @@ pub use Rattle.commit_pages.specs.declared.pages.written.Written
 pub use Rattle.file_meaning.specs.Premises
 pub use Rattle.store_ledger.specs.Ledger
 pub mod At
+pub mod Cached
 pub mod Calls
 pub mod Cells
 pub mod CostsLaws

@@ -17,7 +17,7 @@ pub use laid::{
     newest_are_last, opened_files_stand, pages_follow, read_directories_are_as_long,
     read_payloads_are_as_long,
 };
-pub use letting::{let_go_table, let_go_version};
+pub use letting::{let_go_cache, let_go_table, let_go_version};
 pub use state::{
     Event, ReadFault, StoreParts, a_store_is_kept, listed, listed_now, pin, pinned_cells_stay,
     read_chunk, read_now, reap, reaps_are_few, stores_open_again, unpin,

@@ -1,5 +1,6 @@
 //! The parts of a store, what holds of them at each moment, and the calls on them that write nothing.
 
+mod caching;
 mod chunks;
 mod event;
 mod fault;

@@ -14,11 +14,13 @@ ghost use Rattle.store_state.specs.At.{AreParts, keeping, standing};
 ghost use Rattle.store_state.specs.Calls.{chunks_at, database_with, entry_in, history_at, payload_at, IsLeafOf, IsUnread, NotesFault};
 ghost use Rattle.store_state.specs.Payloads.{HasTold, WasDamagedAt};
 ghost use Rattle.store_state.specs.Standings.{database_at, BeganAs};
+ghost use Rattle.store_state.specs.Inner.CacheReads.{SeesCache};
 ghost use Rattle.store_state.specs.Inner.Searched.{IfRising};
 ghost use Rattle.store_state.specs.Inner.Sights.{Sees, SeesCells, SeesPayloads};
 ghost use Rattle.store_state.specs.declared.state.fault.ReadFault.TheVariants.{Damaged};
 
-use crate::state::reading::{entry_at, read_entry};
+use crate::state::caching::{newest_of, read_cached};
+use crate::state::reading::entry_at;
 use crate::state::{ReadFault, StoreParts};
 use afl_outside::{Disk, has_risen};
 use array_geom::Chunk;
@@ -70,6 +72,8 @@ fn read_at<D: Disk>(
     requires sees { Sees (standing D.moment parts.old) (keeping parts.old) place (history_at (standing D.moment parts.old) place) }
     requires cells { (db : Database) → BeganAs (D.moment parts.old.opened.value.disk).state db
         → SeesCells D.moment (standing D.moment parts.old) db (history_at (standing D.moment parts.old) place) }
+    requires cache { (db : Database) → BeganAs (D.moment parts.old.opened.value.disk).state db
+        → SeesCache (standing D.moment parts.old) db (history_at (standing D.moment parts.old) place) parts.old.cache }
     requires payloads { (file : List ℕ) → HasTold (D.moment parts.old.opened.value.disk).state file
         → SeesPayloads D.moment (standing D.moment parts.old) file (history_at (standing D.moment parts.old) place) }
     requires leaf { IsLeafOf (names_at parts.old.ledger.base (history_at (standing D.moment parts.old) place)) leaf.now }
@@ -89,8 +93,18 @@ fn read_at<D: Disk>(
     ensures reads { OnlyReads (D.moment parts.old.file.disk) (D.moment parts.new.file.disk) }
 {
     let before = parts.file.faults();
+    let newest = newest_of(&parts.file);
     let answer = match payload_at(&parts.table, leaf, at, place) {
-        Some(entry) => read_entry(alloc, &mut parts.file, &leaf.schema, entry),
+        Some(entry) => {
+            read_cached(
+                alloc,
+                &mut parts.file,
+                &mut parts.cache,
+                &leaf.schema,
+                entry,
+                newest,
+            )
+        }
         None => unreachable!(),
     };
     note_rise(&mut parts.ledger, session, before, parts.file.faults());

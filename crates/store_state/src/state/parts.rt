@@ -1,6 +1,7 @@
 //! The parts of a store.
 
 use afl_outside::Disk;
+use chunk_cache::ChunkCache;
 use page_file::PageFile;
 use plan_changes::Change;
 use std::snapshot::Snapshot;
@@ -15,6 +16,8 @@ pub struct StoreParts<D: Disk> {
     pub ledger: Ledger,
     pub catalog: Catalog,
     pub table: VersionTable,
+    /// Chunks that were read.
+    pub cache: ChunkCache,
     /// The change whose slot may stand open, if one may.
     pub doubt: Option<Change>,
     /// The file as it was opened.

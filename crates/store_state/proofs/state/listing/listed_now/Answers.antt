@@ -14,13 +14,13 @@ pub listed_at-requires-clause-sees : goal.listed_at-requires-clause-sees
 listed_at-requires-clause-sees g c =
     let moment = g.D.Disk.moment in
     let parts = c.args.parts.now in
-    sees_place moment (standing moment parts) (keeping parts) c.requires.at (length c.entries.result.now) (ap length c.entries.ensures)
+    sees_place moment (standing moment parts) (keeping parts) c.requires.at.at (length c.entries.result.now) (ap length c.entries.ensures)
 
 pub listed_at-requires-clause-cells : goal.listed_at-requires-clause-cells
 listed_at-requires-clause-cells g c =
     let moment = g.D.Disk.moment in
     let parts = c.args.parts.now in
-    cells_place moment (standing moment parts) (keeping parts) c.requires.at (length c.entries.result.now) (ap length c.entries.ensures)
+    cells_place moment (standing moment parts) (keeping parts) c.requires.at.at (length c.entries.result.now) (ap length c.entries.ensures)
 
 pub returns-clause-told : goal.returns-clause-told
 returns-clause-told g c =
@@ -32,4 +32,4 @@ returns-clause-told g c =
     if_ok (λ chunks. (db : Database) → BeganAs (moment s.opened.disk).state db → AreNumbersIn (rows_of (at db (history_at s n))) leaf chunks)
     (λ chunks. (db : Database) → BeganAs (moment s.opened.disk).state db → AreNumbersIn (rows_of (database_at db s)) leaf chunks) c.listed_at.result
     (λ chunks told db began. subst (λ (h : History). AreNumbersIn (rows_of (at db h)) leaf chunks)
-    (history_place moment s (keeping parts) c.requires.at n (ap length c.entries.ensures)) (told db began)) c.listed_at.ensures.told
+    (history_place moment s (keeping parts) c.requires.at.at n (ap length c.entries.ensures)) (told db began)) c.listed_at.ensures.told

@@ -9,6 +9,7 @@ use Rattle.store_versions.specs.Rows.{needed_rows, places_at}
 use Rattle.store_state.specs.At.{standing, keeping}
 use Rattle.store_state.specs.Standings.{with_entries as more_entries}
 use Rattle.store_state.proofs.AtOn.{at_unpin, with_ledger, with_rows}
+use Rattle.store_state.proofs.CacheOn.{cache_by, cache_unpin}
 use Rattle.store_state.proofs.Places.{places_are}
 use Rattle.store_state.proofs.state.pins.unpin.Goals as goal
 
@@ -25,9 +26,12 @@ returns-clause-at g c =
     ∙ ap (λ (places : List ℕ). needed_rows places k.rows) (places_are _ _ c.pins.ensures.pins)
     ∙ ap (λ (l : LedgerState). needed_rows (places_at (history l)) k.rows) c.unpin.ensures
     ∙ ap (λ (h : History). needed_rows (places_at h) k.rows) (one_more s.ledger.entries (Unpin session)) in
-    with_ledger moment s (record k { rows = c.forget.new.self.rows }) c.unpin.new.self later c.unpin.ensures
-    (with_rows moment (more_entries (Unpin session ∷ []) s) k c.forget.new.self.rows rows same
-    (at_unpin moment s k c.requires.at session (pinned_of session (history s.ledger) c.requires.open.before c.requires.open.begun)))
+    record {
+      at = with_ledger moment s (record k { rows = c.forget.new.self.rows }) c.unpin.new.self later c.unpin.ensures
+          (with_rows moment (more_entries (Unpin session ∷ []) s) k c.forget.new.self.rows rows same
+          (at_unpin moment s k c.requires.at.at session (pinned_of session (history s.ledger) c.requires.open.before c.requires.open.begun)));
+      cache = cache_by moment s c.unpin.new.self later c.unpin.ensures old.cache (cache_unpin moment s old.cache c.requires.at.cache session);
+    }
 
 pub returns-clause-kept : goal.returns-clause-kept
 returns-clause-kept g c =
