@@ -7,8 +7,8 @@ mod parts;
 
 pub use commit_pages::draft;
 pub use commits::{
-    NewBase, PrepareFault, Prepared, let_go_catalog, let_go_changed, let_go_doubt, let_go_pages,
-    let_go_table, let_go_version, let_go_written,
+    NewBase, PrepareFault, Prepared, let_go_cache, let_go_catalog, let_go_changed, let_go_doubt,
+    let_go_pages, let_go_table, let_go_version, let_go_written,
 };
 pub use costs::commits_need_what_they_cost;
 pub use parts::{Layout, prepared_over};
