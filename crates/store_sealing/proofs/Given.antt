@@ -23,7 +23,7 @@ use Rattle.prepared_commits.specs.Payloads.{HasPayloads, HavePayloads}
 use Rattle.prepared_commits.specs.Keeping.{AreDirectoriesOf, HasItsPages, LieIn}
 
 module _ (base : Core) (given : Directories) (h : History) (rows : List VersionRow) (directory : Directory) (x : AreVersions base given h rows) where
-  abbrev more : Directories
+  abbrev pub more : Directories
   more = with_made (length h) directory given
 
   free : AreSeen more rows base h
@@ -32,7 +32,7 @@ module _ (base : Core) (given : Directories) (h : History) (rows : List VersionR
   abbrev Sees : Directories → OpenPin → Type 0
   Sees all pin = seen (length pin.before) rows ≡ versions_at base all pin.before
 
-  same_now : versions_at base given h ≡ versions_at base more h
+  pub same_now : versions_at base given h ≡ versions_at base more h
   same_now = sym x.seen.now ∙ free.now
 
   abbrev Same : OpenPin → Type 0
@@ -41,7 +41,7 @@ module _ (base : Core) (given : Directories) (h : History) (rows : List VersionR
   same_pinned : AllByRecursion Same (open_pins h)
   same_pinned = all_two (Sees given) (Sees more) Same (λ pin was is. sym was ∙ is) (open_pins h) x.seen.pinned free.pinned
 
-  pinned_more : (P : OpenPin → List MadeVersion → Type 0) → AllByRecursion (λ pin. P pin (versions_at base given pin.before)) (open_pins h)
+  pub pinned_more : (P : OpenPin → List MadeVersion → Type 0) → AllByRecursion (λ pin. P pin (versions_at base given pin.before)) (open_pins h)
       → AllByRecursion (λ pin. P pin (versions_at base more pin.before)) (open_pins h)
   pinned_more P all = all_two Same (λ pin. P pin (versions_at base given pin.before)) (λ pin. P pin (versions_at base more pin.before))
       (λ pin same its. subst (P pin) same its) (open_pins h) same_pinned all

@@ -1,5 +1,7 @@
 mod Asked
 pub mod Before
+mod CachePrepared
+pub mod CacheSealed
 pub mod Came
 pub mod Carried
 pub mod Catalogs

@@ -84,7 +84,7 @@ all_whole first file image schema birth (chunk ∷ chunks) pages stored some le 
     )
 
 -- what holds of the entries that are written, and of those before, holds of the directory's
-entries_have : (P : DirEntry → Type 0) (changed : Changed) (newest : Directory) (birth : ℕ) (pages : List ℕ) → AreValid changed → (changed.whole ≡ false → AreRising newest.entries × AllByRecursion P newest.entries)
+pub entries_have : (P : DirEntry → Type 0) (changed : Changed) (newest : Directory) (birth : ℕ) (pages : List ℕ) → AreValid changed → (changed.whole ≡ false → AreRising newest.entries × AllByRecursion P newest.entries)
     → AllByRecursion P (entries_of (settled pages (draft birth changed))) → AllByRecursion P (directory_of (settled pages (draft birth changed)) newest).entries
 entries_have P changed newest birth pages valid before fresh = by_test changed.whole refl
   where

@@ -1,11 +1,12 @@
 -- The parts of a store once a commit was sealed, and where it stopped.
-use Rattle.std.proofs.Common.{◌≡◌, ◌↔◌, ℕ, Bool, true, false, List, [], ◌∷◌, length, map, Option, None, Some, Result, Ok, Err, IfOk, OnOk, OnErr, MatchResult, IsTrue, refl, ap, sym, subst}
+use Rattle.std.proofs.Common.{◌≡◌, ◌↔◌, ℕ, Bool, true, false, List, [], ◌∷◌, length, map, Option, None, Some, IfSome, Result, Ok, Err, IfOk, OnOk, OnErr, MatchResult, IsTrue, refl, ap, sym, subst}
 use Rattle.std.specs.Prelude.{◌&&◌}
 use Rattle.std.proofs.lemmas.Bool.{and_parts, false≢true}
 use Rattle.afl_outside.specs.declared.source.Failed.{Failed}
 use Rattle.afl_outside.specs.Counts.{Rose}
 use Rattle.afl_outside.specs.Disk.{DiskState, FailsWithCause, LeavesOnly, Moment}
 use Rattle.array_geom.specs.declared.chunk.Changed.{Changed}
+use Rattle.chunk_cache.specs.declared.cache.ChunkCache.{ChunkCache}
 use Rattle.page_chain.specs.declared.slots.slots.slots.Slots.{Slots}
 use Rattle.plan_changes.specs.declared.change.Change.{Change}
 use Rattle.plan_changes.specs.Databases.{Database, after}
@@ -35,6 +36,8 @@ use Rattle.store_sealing.specs.StepsLaws.{IsReady, SealedStoresAreKept, StoppedS
 use Rattle.store_sealing.specs.Steps.{sealed, sealed_keeping, sealed_ledger, sealed_slots, stopped, stopped_keeping, stopped_slots}
 use Rattle.store_sealing.specs.CellsLaws.{IsWritten, IsWrittenOver, CommitsPassBy, SealedCellsAreHeld, SealedImagesStand, SealedPayloadsAreHeld, StoppedCellsAreHeld, StoppedPayloadsAreHeld}
 use Rattle.store_sealing.specs.Moves.{IsDone, MayLeave, StopsAt, Writes}
+use Rattle.store_state.specs.Cached.{IsCacheOf}
+use Rattle.store_sealing.proofs.CacheSealed.{sealed_cache, stopped_cache}
 use Rattle.store_sealing.proofs.SealingPages.{may_be_written}
 use Rattle.store_sealing.specs.Inner.Ends.{EndsSo, Held, held_of, noted_if}
 use Rattle.store_sealing.specs.Inner.Lawful.{CommitsHold}
@@ -86,10 +89,11 @@ pinned_behind ledger later session change used allowed e =
 abbrev pub held : {D : Type 0} → StoreParts D → Held
 held parts = held_of parts.ledger parts.catalog parts.table.rows parts.doubt (map (λ ready. directory_in ready.value) parts.made.items)
 
--- what was as the store was opened is the same
+-- what was as the store was opened is the same, and the cache
 pub record BeganAlike {D : Type 0} (old new : StoreParts D) : Type 0 where
   pub opened : new.opened.value ≡ old.opened.value
   pub first : new.first.value.rows ≡ old.first.value.rows
+  pub cache : new.cache ≡ old.cache
 
 pub record HasCome {D : Type 0} (moment : D → Moment) (old : StoreParts D) (p : Prepared) (result : Result ℕ Failed) (new : StoreParts D) : Type 0 where
   pub parts : AreParts moment new
@@ -112,6 +116,10 @@ pub record HasCome {D : Type 0} (moment : D → Moment) (old : StoreParts D) (p 
 abbrev pub OnlyNow : {D : Type 0} → (D → Moment) → Type 0
 OnlyNow {D} moment = (disk : D) (image : List ℕ) → (moment disk).left_since (moment disk).state.moment image → (moment disk).may_leave image
 
+-- the disk may leave what it tells
+abbrev pub ReadsNow : {D : Type 0} → (D → Moment) → Type 0
+ReadsNow {D} moment = (disk : D) → IfSome (moment disk).state.seen (moment disk).may_leave
+
 module _ {D : Type 0} (moment : D → Moment) (old : StoreParts D) (p : Prepared) (x : AreParts moment old)
     (changed : Option Changed) (for_it : IsPreparedFor moment old changed p) where
   abbrev s : Standing D
@@ -122,7 +130,7 @@ module _ {D : Type 0} (moment : D → Moment) (old : StoreParts D) (p : Prepared
 
   pub is_ready : IsReady moment s k p
   is_ready = record {
-    kept = x.kept;
+    kept = x.at.kept;
     changed = changed;
     asked = for_it.asked;
     pages = for_it.pages;
@@ -136,11 +144,11 @@ module _ {D : Type 0} (moment : D → Moment) (old : StoreParts D) (p : Prepared
 
   is_written : (db : Database) → BeganAs (moment old.opened.value.disk).state db → (later : Slots) (disk : D) → Writes k.slots later p (moment s.disk) (moment disk)
       → IsWritten moment s k p db later disk
-  is_written db began later disk writes = record { ready = is_ready; cells = x.cells db began; began = began; writes = writes }
+  is_written db began later disk writes = record { ready = is_ready; cells = x.at.cells db began; began = began; writes = writes }
 
   is_written_over : (file : List ℕ) → HasTold (moment old.opened.value.disk).state file → (later : Slots) (disk : D) → Writes k.slots later p (moment s.disk) (moment disk)
       → IsWrittenOver moment s k p file later disk
-  is_written_over file told later disk writes = record { ready = is_ready; payloads = x.payloads file told; writes = writes }
+  is_written_over file told later disk writes = record { ready = is_ready; payloads = x.at.payloads file told; writes = writes }
 
   -- ---- sealed
 
@@ -172,6 +180,23 @@ module _ {D : Type 0} (moment : D → Moment) (old : StoreParts D) (p : Prepared
         cells = λ db began. cells s k p db later stage ledger disk (is_written db began later disk writes) stop noted;
       }))
 
+  -- ---- the cache
+
+  cache_sealed : SealedStoresAreKept moment → SealedCellsAreHeld moment → (later : Slots) (disk : D) (ledger : LedgerState) → Writes k.slots later p (moment s.disk) (moment disk)
+      → IsDone p.base k.slots later p.blobs p.chain (moment s.disk) (moment disk) → ((image : List ℕ) → (moment disk).left_since (moment disk).state.moment image → (moment disk).may_leave image)
+      → IfSome (moment disk).state.seen (moment disk).may_leave → NotesFault (moment s.disk).state (moment disk).state p.session (sealed_ledger s p) ledger
+      → (new : Standing D) (cache : ChunkCache) → new ≡ sealed moment s p ledger disk → cache ≡ old.cache → IsCacheOf moment new cache
+  cache_sealed stores cells later disk ledger writes done only reads noted new cache e same =
+      subst (λ (t : Standing D). IsCacheOf moment t cache) (sym e)
+      (subst (λ (c : ChunkCache). IsCacheOf moment (sealed moment s p ledger disk) c) (sym same)
+      (sealed_cache moment stores cells s k p later ledger disk old.cache (λ db began. is_written db began later disk writes) done only reads noted x.cache))
+
+  cache_stopped : (stage : Stopped) (disk : D) (ledger : LedgerState) → NotesFault (moment s.disk).state (moment disk).state p.session s.ledger ledger
+      → (new : Standing D) (cache : ChunkCache) → new ≡ stopped stage s p ledger disk → cache ≡ old.cache → IsCacheOf moment new cache
+  cache_stopped stage disk ledger noted new cache e same =
+      subst (λ (t : Standing D). IsCacheOf moment t cache) (sym e)
+      (subst (λ (c : ChunkCache). IsCacheOf moment (stopped stage s p ledger disk) c) (sym same) (stopped_cache moment s p stage ledger disk old.cache noted x.cache))
+
   -- ---- images
 
   pub passes : CommitsPassBy moment → (later : Slots) (disk : D) → Writes k.slots later p (moment s.disk) (moment disk) → (db : Database) → BeganAs (moment old.opened.value.disk).state db
@@ -184,10 +209,10 @@ module _ {D : Type 0} (moment : D → Moment) (old : StoreParts D) (p : Prepared
 
   -- ---- what it has come to
 
-  pub has_come : CommitsHold moment → OnlyNow moment → (new : StoreParts D) → BeganAlike old new → (end : Result (Unit {0}) Stopped) (rose : Bool) (result : Result ℕ Failed)
+  pub has_come : CommitsHold moment → OnlyNow moment → ReadsNow moment → (new : StoreParts D) → BeganAlike old new → (end : Result (Unit {0}) Stopped) (rose : Bool) (result : Result ℕ Failed)
       → CameTo p.base k.slots new.file.slots p.blobs p.chain (moment s.disk) (moment new.file.disk) end rose → EndsSo end rose p (held old) result (held new)
       → (standing moment new).acked ≡ acked_after end s.acked (moment new.file.disk).state.moment → HasCome moment old p result new
-  has_come laws only new same (Ok u) rose (Ok place) came ends acked =
+  has_come laws only reads new same (Ok u) rose (Ok place) came ends acked =
       let disk : D = new.file.disk in
       let later : Slots = new.file.slots in
       let writes : Writes k.slots later p (moment s.disk) (moment disk) = record { known = came.known; during = came.during; same = came.same } in
@@ -198,7 +223,10 @@ module _ {D : Type 0} (moment : D → Moment) (old : StoreParts D) (p : Prepared
       λ i. record { disk = disk; opened = same.opened i; first = map version_of (same.first i); ledger = new.ledger; doubt = (ends.1 i).doubt; acked = acked i; made = (ends.1 i).made } in
       let f : keeping new ≡ sealed_keeping s k p = λ i. record { slots = slots i; catalog = (ends.1 i).catalog; rows = (ends.1 i).rows } in
       record {
-        parts = at_sealed laws.kept laws.had laws.held later disk new.ledger writes came.done (only disk) noted (standing moment new) (keeping new) e f;
+        parts = record {
+          at = at_sealed laws.kept laws.had laws.held later disk new.ledger writes came.done (only disk) noted (standing moment new) (keeping new) e f;
+          cache = cache_sealed laws.kept laws.held later disk new.ledger writes came.done (only disk) (reads disk) noted (standing moment new) new.cache e same.cache;
+        };
         ok = (ends.0, e);
         err = tt;
         kept = f;
@@ -207,9 +235,9 @@ module _ {D : Type 0} (moment : D → Moment) (old : StoreParts D) (p : Prepared
         durable = stands laws.stands later disk writes came.done;
         cause = tt;
       }
-  has_come laws only new same (Ok u) rose (Err failed) came ends acked = absurd ends
-  has_come laws only new same (Err stage) rose (Ok place) came ends acked = absurd ends
-  has_come laws only new same (Err stage) rose (Err failed) came ends acked =
+  has_come laws only reads new same (Ok u) rose (Err failed) came ends acked = absurd ends
+  has_come laws only reads new same (Err stage) rose (Ok place) came ends acked = absurd ends
+  has_come laws only reads new same (Err stage) rose (Err failed) came ends acked =
       let disk : D = new.file.disk in
       let later : Slots = new.file.slots in
       let writes : Writes k.slots later p (moment s.disk) (moment disk) = record { known = came.known; during = came.during; same = came.same } in
@@ -220,7 +248,10 @@ module _ {D : Type 0} (moment : D → Moment) (old : StoreParts D) (p : Prepared
       λ i. record { disk = disk; opened = same.opened i; first = map version_of (same.first i); ledger = new.ledger; doubt = (ends i).doubt; acked = acked i; made = (ends i).made } in
       let f : keeping new ≡ stopped_keeping stage k p later = λ i. record { slots = slots i; catalog = (ends i).catalog; rows = (ends i).rows } in
       record {
-        parts = at_stopped laws.stopped_kept laws.stopped_had laws.stopped_held later stage disk new.ledger writes came.stopped noted (standing moment new) (keeping new) e f;
+        parts = record {
+          at = at_stopped laws.stopped_kept laws.stopped_had laws.stopped_held later stage disk new.ledger writes came.stopped noted (standing moment new) (keeping new) e f;
+          cache = cache_stopped stage disk new.ledger noted (standing moment new) new.cache e same.cache;
+        };
         ok = tt;
         err = (stage, e);
         kept = λ i. record { slots = later; catalog = (ends i).catalog; rows = (ends i).rows };

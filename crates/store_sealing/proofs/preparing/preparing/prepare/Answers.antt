@@ -6,27 +6,30 @@ use Rattle.event_core.specs.Bases.{sequence_at}
 use Rattle.prepared_commits.specs.Written.{Written}
 use Rattle.prepared_commits.specs.Versions.{draft_of}
 use Rattle.store_ledger.specs.Ledger.{LedgerState, history}
-use Rattle.prepared_commits.specs.At.{IsAt, keeping, standing}
+use Rattle.prepared_commits.specs.At.{AreParts, keeping, standing}
 use Rattle.prepared_commits.specs.Standings.{Standing, base_of}
 use Rattle.prepared_commits.specs.Needs.{needs, needs_by, newest_now, next_sequence}
 use Rattle.prepared_commits.specs.Parts.{IsFullFor, IsPreparedAs}
 use Rattle.store_sealing.specs.Left.{IsLeft, tried_now}
 use Rattle.store_sealing.proofs.Before.{before, comes_so, has_next, prepared_for}
 use Rattle.store_sealing.proofs.Fits.{fits_in}
-use Rattle.store_sealing.proofs.Noted.{at_tried, first_by}
+use Rattle.store_sealing.proofs.CachePrepared.{parts_tried}
+use Rattle.store_sealing.proofs.Noted.{first_by}
 use Rattle.store_sealing.proofs.Reaped.{room_left}
 use Rattle.store_sealing.proofs.preparing.preparing.prepare.Goals as goal
 
 pub prepared_of-requires-clause-at : goal.prepared_of-requires-clause-at
 prepared_of-requires-clause-at g c =
-    subst (λ (l : LedgerState). IsAt g.D.Disk.moment (standing g.D.Disk.moment (record c.args.parts.now { ledger = l })) (keeping c.args.parts.now)) (sym c.note_tried.ensures.noted)
-    (at_tried g.D.Disk.moment (standing g.D.Disk.moment c.args.parts.now) (keeping c.args.parts.now) c.args.session c.args.change c.requires.at)
+    let moment = g.D.Disk.moment in
+    let parts = c.args.parts.now in
+    subst (λ (l : LedgerState). AreParts moment (record parts { ledger = l })) (sym c.note_tried.ensures.noted)
+    (parts_tried moment parts c.args.session c.args.change c.requires.at)
 
 pub returns-in-Ok-clause-left : goal.returns-in-Ok-clause-left
 returns-in-Ok-clause-left g c =
     let parts = c.args.parts.now in
     let s = standing g.D.Disk.moment parts in
-    let next : c.in-Some.sequence ≡ next_sequence s = c.in-Some.ensures.next.0 ∙ ap (λ (n : ℕ). n + 1) c.requires.at.kept.slots.sequence in
+    let next : c.in-Some.sequence ≡ next_sequence s = c.in-Some.ensures.next.0 ∙ ap (λ (n : ℕ). n + 1) c.requires.at.at.kept.slots.sequence in
     let spelled : c.in-Ok.written ≡ draft_of (next_sequence s) c.args.changed = c.in-Ok.ensures.spelled ∙ ap (λ (n : ℕ). draft_of n c.args.changed) next in
     subst (λ (w : Option Written). IsLeft (needs_by parts.file.slots.target parts.catalog (newest_now s c.args.change) c.args.change w) (tried_now c.args.session c.args.change s) c.prepared_of.result (standing g.D.Disk.moment c.prepared_of.new.parts)) spelled
     (subst (λ (l : LedgerState). IsLeft (needs_by parts.file.slots.target parts.catalog (newest_now (standing g.D.Disk.moment (record parts { ledger = l })) c.args.change) c.args.change c.in-Ok.written)
@@ -39,11 +42,11 @@ returns-in-Ok-clause-ok g c =
     let s = standing moment parts in
     let t = tried_now c.args.session c.args.change s in
     let k = keeping parts in
-    let next : c.in-Some.sequence ≡ next_sequence s = c.in-Some.ensures.next.0 ∙ ap (λ (n : ℕ). n + 1) c.requires.at.kept.slots.sequence in
+    let next : c.in-Some.sequence ≡ next_sequence s = c.in-Some.ensures.next.0 ∙ ap (λ (n : ℕ). n + 1) c.requires.at.at.kept.slots.sequence in
     let one : 1 ≤ c.in-Some.sequence = omega (arith, c.in-Some.ensures.next.0) in
     let few : c.page_limit-limit.result < 2 ^ 32 = search rules in
     let limit : s.ledger.base.limit ≤ 2 ^ 32 = omega (arith, few, c.page_limit-limit.ensures) in
-    let is = before moment s k c.args.change c.args.changed c.args.session c.in-Some.sequence c.in-Ok.written c.note_tried.new.self c.requires.at c.requires.asked next one c.in-Some.ensures.next.1 c.requires.pinned
+    let is = before moment s k c.args.change c.args.changed c.args.session c.in-Some.sequence c.in-Ok.written c.note_tried.new.self c.requires.at.at c.requires.asked next one c.in-Some.ensures.next.1 c.requires.pinned
     c.requires.tried c.note_tried.ensures.noted c.note_tried.ensures.room c.in-Ok.ensures.spelled c.in-Ok.ensures.ready c.in-Ok.ensures.listed limit in
     let left = subst (λ (w : Option Written). IsLeft (needs_by parts.file.slots.target parts.catalog (newest_now t c.args.change) c.args.change w) t c.prepared_of.result (standing moment c.prepared_of.new.parts)) c.in-Ok.ensures.spelled
     (subst (λ (l : LedgerState). IsLeft (needs_by parts.file.slots.target parts.catalog (newest_now (standing moment (record parts { ledger = l })) c.args.change) c.args.change c.in-Ok.written)
@@ -63,22 +66,26 @@ returns-in-Ok-clause-fits g c =
     let parts = c.args.parts.now in
     let moment = g.D.Disk.moment in
     let s = standing moment parts in
-    let next : c.in-Some.sequence ≡ next_sequence s = c.in-Some.ensures.next.0 ∙ ap (λ (n : ℕ). n + 1) c.requires.at.kept.slots.sequence in
+    let next : c.in-Some.sequence ≡ next_sequence s = c.in-Some.ensures.next.0 ∙ ap (λ (n : ℕ). n + 1) c.requires.at.at.kept.slots.sequence in
     let spelled : c.in-Ok.written ≡ draft_of (next_sequence s) c.args.changed = c.in-Ok.ensures.spelled ∙ ap (λ (n : ℕ). draft_of n c.args.changed) next in
     let full = subst (λ (w : Option Written). IsFullFor (needs_by parts.file.slots.target parts.catalog (newest_now s c.args.change) c.args.change w) c.prepared_of.result c.prepared_of.new.parts.ledger) spelled
     (subst (λ (l : LedgerState). IsFullFor (needs_by parts.file.slots.target parts.catalog (newest_now (standing moment (record parts { ledger = l })) c.args.change) c.args.change c.in-Ok.written)
     c.prepared_of.result c.prepared_of.new.parts.ledger) c.note_tried.ensures.noted c.prepared_of.ensures.fits) in
-    fits_in moment (standing moment c.prepared_of.new.parts) (keeping c.prepared_of.new.parts) (needs s (keeping parts) c.args.change c.args.changed) c.prepared_of.result c.prepared_of.ensures.at full
+    fits_in moment (standing moment c.prepared_of.new.parts) (keeping c.prepared_of.new.parts) (needs s (keeping parts) c.args.change c.args.changed) c.prepared_of.result c.prepared_of.ensures.at.at full
 
 pub returns-in-Err-clause-at : goal.returns-in-Err-clause-at
 returns-in-Err-clause-at g c =
-    subst (λ (l : LedgerState). IsAt g.D.Disk.moment (standing g.D.Disk.moment (record c.args.parts.now { ledger = l })) (keeping c.args.parts.now)) (sym c.note_tried.ensures.noted)
-    (at_tried g.D.Disk.moment (standing g.D.Disk.moment c.args.parts.now) (keeping c.args.parts.now) c.args.session c.args.change c.requires.at)
+    let moment = g.D.Disk.moment in
+    let parts = c.args.parts.now in
+    subst (λ (l : LedgerState). AreParts moment (record parts { ledger = l })) (sym c.note_tried.ensures.noted)
+    (parts_tried moment parts c.args.session c.args.change c.requires.at)
 
 pub returns-in-None-clause-at : goal.returns-in-None-clause-at
 returns-in-None-clause-at g c =
-    subst (λ (l : LedgerState). IsAt g.D.Disk.moment (standing g.D.Disk.moment (record c.args.parts.now { ledger = l })) (keeping c.args.parts.now)) (sym c.note_tried.ensures.noted)
-    (at_tried g.D.Disk.moment (standing g.D.Disk.moment c.args.parts.now) (keeping c.args.parts.now) c.args.session c.args.change c.requires.at)
+    let moment = g.D.Disk.moment in
+    let parts = c.args.parts.now in
+    subst (λ (l : LedgerState). AreParts moment (record parts { ledger = l })) (sym c.note_tried.ensures.noted)
+    (parts_tried moment parts c.args.session c.args.change c.requires.at)
 
 pub note_tried-requires-clause-first : goal.note_tried-requires-clause-first
 note_tried-requires-clause-first g c =
@@ -94,7 +101,7 @@ prepared_of-requires-clause-room g c = room_left false c.note_tried.new.self c.n
 pub returns-in-Ok-clause-end : goal.returns-in-Ok-clause-end
 returns-in-Ok-clause-end g c =
     let s = standing g.D.Disk.moment c.args.parts.now in
-    let less : sequence_at (base_of s) (history s.ledger) < 2 ^ 64 - 1 = omega (arith, c.in-Some.ensures.next.0, c.in-Some.ensures.next.1, c.requires.at.kept.slots.sequence) in
+    let less : sequence_at (base_of s) (history s.ledger) < 2 ^ 64 - 1 = omega (arith, c.in-Some.ensures.next.0, c.in-Some.ensures.next.1, c.requires.at.at.kept.slots.sequence) in
     has_next _ _ c.prepared_of.result c.prepared_of.new.parts.ledger less c.prepared_of.ensures.fits
 
 pub returns-in-Ok-clause-of : goal.returns-in-Ok-clause-of

@@ -19,7 +19,7 @@ returns g c =
     let file = c.write_prepared-outcome.new.file in
     let outcome = c.write_prepared-outcome.result in
     let ends = c.finish.new in
-    let come = has_come g.D.Disk.moment old c.args.prepared c.requires.at c.requires.prepared.0 c.requires.prepared.1 c.commits_hold.ensures g.met.D.Disk.only_now
+    let come = has_come g.D.Disk.moment old c.args.prepared c.requires.at c.requires.prepared.0 c.requires.prepared.1 c.commits_hold.ensures g.met.D.Disk.only_now g.met.D.Disk.as_read
     (record old { file = file; acked = c.write_prepared-outcome.new.acked; ledger = ends.ledger; catalog = ends.catalog; table = ends.table; doubt = ends.doubt; made = ends.made })
-    (record { opened = refl; first = refl }) outcome.end outcome.rose c.finish.result c.write_prepared-outcome.ensures.came c.finish.ensures c.write_prepared-outcome.ensures.acked in
+    (record { opened = refl; first = refl; cache = refl }) outcome.end outcome.rose c.finish.result c.write_prepared-outcome.ensures.came c.finish.ensures c.write_prepared-outcome.ensures.acked in
     record { at = come.parts; ok = come.ok; err = come.err; kept = come.kept; noted = come.noted; during = come.during; durable = come.durable; same = c.write_prepared-outcome.ensures.came.same; cause = come.cause }
