@@ -15,6 +15,7 @@ use Rattle.file_meaning.specs.Opening.{found_in}
 use Rattle.file_reading.specs.Reading.{slots_of}
 use Rattle.store_versions.specs.Seen.{version_of}
 use Rattle.store_state.specs.declared.state.parts.StoreParts.{StoreParts}
+use Rattle.store_state.proofs.CacheOn.{empty_cache}
 use Rattle.store_state.specs.Standings.{Standing}
 use Rattle.store_state.specs.Inner.Keeping.{Keeping}
 use Rattle.store_state.specs.At.{AreParts, IsAt, keeping, standing}
@@ -37,7 +38,7 @@ keeping_read now file limits read tells of same = λ i. record { slots = same i;
 
 -- what was put together, of a file that was opened and is now so
 module _ {D : Type 0} (moment : D → Moment) (file now : OpenFile D) (limits : Limits) (read : ReadParts) (parts : StoreParts D)
-    (of : AreFound (moment file.disk).state.seen file.slots limits read) (together : IsPutTogether moment now file read parts) where
+    (of : AreFound (moment file.disk).state.seen file.slots limits read) (together : IsPutTogether moment now file read limits.cache parts) where
   pub standing_of : standing moment parts ≡ store_of now.disk file of.found limits
   standing_of = together.standing_is ∙ store_read now file limits read (moment file.disk).state.seen of
 
@@ -54,7 +55,10 @@ module _ {D : Type 0} (moment : D → Moment) (file now : OpenFile D) (limits : 
       } in
       let at : IsAt moment (store_of now.disk file of.found limits) (keeping_of file of.found) = store_is_at moment file now.disk of.found limits given in
       let keeps : keeping parts ≡ keeping_of file of.found = together.keeping_is ∙ keeping_read now file limits read (moment file.disk).state.seen of same in
-      subst (λ (s : Standing D). IsAt moment s (keeping parts)) (sym standing_of) (subst (IsAt moment (store_of now.disk file of.found limits)) (sym keeps) at)
+      record {
+        at = subst (λ (s : Standing D). IsAt moment s (keeping parts)) (sym standing_of) (subst (IsAt moment (store_of now.disk file of.found limits)) (sym keeps) at);
+        cache = empty_cache moment (standing moment parts) parts.cache limits.cache together.cache_is;
+      }
 
   pub is_new : IsNew limits (standing moment parts)
   is_new = subst (IsNew limits) (sym standing_of) (record { entries = refl; notes = refl; history = refl; pages = refl; doubt = refl; acked = refl; made = refl })

@@ -8,6 +8,7 @@ use Rattle.page_chain.specs.Standing.{IsSound}
 use Rattle.page_chain.specs.declared.slots.slots.slots.Slots.{Slots}
 use Rattle.page_file.specs.FilesOpened.{OpenFile}
 use Rattle.page_file.specs.OpeningOpened.{AreFresh}
+use Rattle.chunk_cache.specs.Caches.{cache_map, empty_map}
 use Rattle.version_catalog.specs.Catalogs.{names_in}
 use Rattle.file_meaning.specs.Opening.{found_in}
 use Rattle.file_meaning.specs.declared.meaning.found.Found.{Found}
@@ -77,8 +78,9 @@ store_with file opened read = record {
 abbrev pub keeping_with : {D : Type 0} → OpenFile D → ReadParts → Keeping
 keeping_with file read = record { slots = file.slots; catalog = read.catalog; rows = read.table.rows }
 
-pub record IsPutTogether {D : Type 0} (moment : D → Moment) (file opened : OpenFile D) (read : ReadParts) (parts : StoreParts D) : Type 0 where
+pub record IsPutTogether {D : Type 0} (moment : D → Moment) (file opened : OpenFile D) (read : ReadParts) (limit : ℕ) (parts : StoreParts D) : Type 0 where
   pub file_is : parts.file ≡ file
   pub opened_is : parts.opened.value ≡ opened
   pub standing_is : standing moment parts ≡ store_with file opened read
   pub keeping_is : keeping parts ≡ keeping_with file read
+  pub cache_is : cache_map parts.cache ≡ empty_map limit

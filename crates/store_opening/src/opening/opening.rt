@@ -1,5 +1,6 @@
 //! A store is opened over a disk.
 ghost use Rattle.std.specs.Prelude.{◌≡◌, IfSome, IfOk, IfErr, MatchResult};
+ghost use Rattle.chunk_cache.specs.Caches.{cache_map, empty_map};
 ghost use Rattle.page_chain.specs.Puts.{OnlySyncs};
 ghost use Rattle.store_state.specs.At.{AreParts, standing};
 ghost use Rattle.store_opening.specs.Opened.{HasCause, HasFound, IsNew, IsToldBy, WasOpened};
@@ -7,6 +8,7 @@ ghost use Rattle.store_opening.specs.Inner.Read.{IsOpenFile, IsPutTogether};
 
 use crate::opening::reading::{ReadParts, read_parts};
 use afl_outside::Disk;
+use chunk_cache::ChunkCache;
 use page_file::{OpenCause, PageFile};
 use std::alloc::Global;
 use std::snapshot::Snapshot;
@@ -20,16 +22,19 @@ pub struct Limits {
     pub pages: u32,
     /// The entries of its history.
     pub history: u32,
+    /// The chunks of its cache, none if 0.
+    pub cache: u32,
 }
 
-/// The parts of a store whose history has no entry.
+/// The parts of a store whose history has no entry, with room for so many chunks in its cache.
 fn put_together<D: Disk>(
     alloc: Global,
     file: PageFile<D>,
     opened: Snapshot<PageFile<D>>,
     read: ReadParts,
+    limit: u32,
 ) -> StoreParts<D>
-    ensures { IsPutTogether D.moment file opened.value read result }
+    ensures { IsPutTogether D.moment file opened.value read limit result }
 {
     let ReadParts {
         ledger,
@@ -42,6 +47,7 @@ fn put_together<D: Disk>(
         ledger,
         catalog,
         table,
+        cache: ChunkCache::new(limit),
         doubt: None,
         opened,
         first,
@@ -59,6 +65,7 @@ fn open_parts<D: Disk>(
     requires { IsOpenFile (D.moment file.disk) file.slots }
     ensures at { IfOk result (AreParts D.moment) }
     ensures new { IfOk result (λ parts. IsNew limits (standing D.moment parts)) }
+    ensures cache { IfOk result (λ parts. cache_map parts.cache ≡ empty_map limits.cache) }
     ensures opened { IfOk result (λ parts. parts.opened.value ≡ file) }
     ensures slots { IfOk result (λ parts. parts.file.slots ≡ file.slots) }
     ensures told { IfSome (D.moment file.disk).state.seen (λ seen. MatchResult result (HasFound D.moment limits seen) (λ x. IsToldBy seen x.0)) }
@@ -69,7 +76,7 @@ fn open_parts<D: Disk>(
 {
     let opened = Snapshot::of(&file);
     match read_parts(alloc, &mut file, limits) {
-        Ok(read) => Ok(put_together(alloc, file, opened, read)),
+        Ok(read) => Ok(put_together(alloc, file, opened, read, limits.cache)),
         Err(cause) => {
             let_go_seen(opened);
             Err((cause, file.close()))
@@ -86,6 +93,7 @@ pub fn open<D: Disk>(
 ) -> Result<StoreParts<D>, (OpenCause, D)>
     ensures at { IfOk result (AreParts D.moment) }
     ensures new { IfOk result (λ parts. IsNew limits (standing D.moment parts)) }
+    ensures cache { IfOk result (λ parts. cache_map parts.cache ≡ empty_map limits.cache) }
     ensures opened { IfOk result (WasOpened D.moment disk) }
     ensures told { IfSome (D.moment disk).state.seen (λ seen. MatchResult result (HasFound D.moment limits seen) (λ x. IsToldBy seen x.0)) }
     ensures reads { MatchResult result

@@ -11,7 +11,7 @@ returns-in-Ok-clause-at g c =
     let now = c.read_parts.new.file in
     let read = c.in-Ok.read in
     let parts = c.put_together.result in
-    let together = subst (λ (o : OpenFile _). IsPutTogether moment now o read parts) c.of-opened.ensures c.put_together.ensures in
+    let together = subst (λ (o : OpenFile _). IsPutTogether moment now o read c.args.limits.cache parts) c.of-opened.ensures c.put_together.ensures in
     are_parts moment c.args.file now c.args.limits read parts c.in-Ok.ensures.found together c.requires c.in-Ok.ensures.slots c.in-Ok.ensures.reads c.in-Ok.ensures.sound
 
 pub returns-in-Ok-clause-told : goal.returns-in-Ok-clause-told
@@ -20,7 +20,7 @@ returns-in-Ok-clause-told g c =
     let now = c.read_parts.new.file in
     let read = c.in-Ok.read in
     let parts = c.put_together.result in
-    let together = subst (λ (o : OpenFile _). IsPutTogether moment now o read parts) c.of-opened.ensures c.put_together.ensures in
+    let together = subst (λ (o : OpenFile _). IsPutTogether moment now o read c.args.limits.cache parts) c.of-opened.ensures c.put_together.ensures in
     have_found moment c.args.file now c.args.limits read parts c.in-Ok.ensures.found together c.requires.opens c.in-Ok.ensures.slots
 
 pub returns-in-Ok-clause-opened : goal.returns-in-Ok-clause-opened
