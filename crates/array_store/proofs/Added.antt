@@ -169,7 +169,7 @@ commits_add_events D s session change used moment directory counted =
 -- ---- of a store's parts
 
 pub is_counted : {D : Type 0} (moment : D → Moment) (parts : StoreParts D) → AreParts moment parts → IsLedger parts.ledger → IsCounted (standing moment parts)
-is_counted moment parts at is = record { within = notes_are_within parts.ledger is; acked = at.kept.acked; made = at.kept.made }
+is_counted moment parts at is = record { within = notes_are_within parts.ledger is; acked = at.at.kept.acked; made = at.at.kept.made }
 
 pub on_ok : {T F : Type 0} (P Q : Type 0) (result : Result T F) → (P → Q) → OnOk result P → OnOk result Q
 on_ok P Q (Ok value) f p = f p

@@ -34,10 +34,10 @@ stores_have_databases {D} moment parts at =
     let s : Standing D = standing moment parts in
     let k : Keeping = keeping parts in
     let n : ℕ = length parts.ledger.entries in record {
-      now = has_database moment s k at n _ (ap (names_at s.ledger.base) (history_place moment s k at n refl)) (sees_place moment s k at n refl) (cells_place moment s k at n refl);
+      now = has_database moment s k at.at n _ (ap (names_at s.ledger.base) (history_place moment s k at.at n refl)) (sees_place moment s k at.at n refl) (cells_place moment s k at.at n refl);
       pinned = λ pinned o.
-          has_database moment s k at pinned.place pinned.names (ap (names_at s.ledger.base) (pin_history moment s k at pinned o) ∙ sym o.names)
-          (sees_at moment s k at pinned o) (cells_at moment s k at pinned o);
+          has_database moment s k at.at pinned.place pinned.names (ap (names_at s.ledger.base) (pin_history moment s k at.at pinned o) ∙ sym o.names)
+          (sees_at moment s k at.at pinned o) (cells_at moment s k at.at pinned o);
     }
 
 -- what a pin is told, where its seat has seen these events at the end

@@ -23,7 +23,7 @@ ImagesStand moment parts = (db : Database) → BeganAs (moment parts.opened.valu
     → (image : List ℕ) → (moment parts.file.disk).may_leave image → StandsFor (database_at db (standing moment parts)) parts.doubt image
 
 pub images_stand : {D : Type 0} (moment : D → Moment) (parts : StoreParts D) → AreParts moment parts → ImagesStand moment parts
-images_stand moment parts is db began image left = ((is.cells db began).images image left).stands
+images_stand moment parts is db began image left = ((is.at.cells db began).images image left).stands
 
 -- of a store to which nothing came yet
 pub new_stands : {D : Type 0} (moment : D → Moment) (limits : Limits) (parts : StoreParts D) → AreParts moment parts → IsNew limits (standing moment parts)

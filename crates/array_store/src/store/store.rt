@@ -12,7 +12,7 @@ use afl_outside::Disk;
 use cell_values::List;
 use event_core::Entry;
 use logical_plan::Names;
-use prepared_commits::{let_go_catalog, let_go_doubt, let_go_table};
+use prepared_commits::{let_go_cache, let_go_catalog, let_go_doubt, let_go_table};
 use std::marker::Model;
 use std::snapshot::Snapshot;
 use store_ledger::{Ledger, let_go_seen};
@@ -132,6 +132,7 @@ impl<D: Disk> Store<D> {
             ledger,
             catalog,
             table,
+            cache,
             doubt,
             opened,
             first,
@@ -140,6 +141,7 @@ impl<D: Disk> Store<D> {
         } = self.parts;
         let_go_catalog(catalog);
         let_go_table(table);
+        let_go_cache(cache);
         let_go_doubt(doubt);
         let_go_seen(opened);
         let_go_seen(first);

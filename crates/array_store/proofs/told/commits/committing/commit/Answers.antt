@@ -20,7 +20,7 @@ returns-in-Ok-clause-done g c =
     on_made _ _ c.seal.result (λ place m. m.done)
     (made moment c.args.session c.args.change c.args.changed s t n (record { comes = e.adds.0; is = e.adds.1; adds = e.adds.2 }) p e.of.0 e.of.1 e.ok.asked
     (needs s (keeping old) c.args.change c.args.changed)
-    (λ db. c.commits_need_what_they_cost.ensures s (keeping old) c.args.change c.args.changed db c.is_at.ensures.at c.requires.asked)
+    (λ db. c.commits_need_what_they_cost.ensures s (keeping old) c.args.change c.args.changed db c.is_at.ensures.at.at c.requires.asked)
     e.fits e.end c.seal.result c.seal.ensures.place c.seal.ensures.noted c.seal.ensures.adds)
 
 pub returns-in-Ok-clause-place : goal.returns-in-Ok-clause-place
@@ -35,7 +35,7 @@ returns-in-Ok-clause-place g c =
     if_ok _ _ c.seal.result (λ place m. m.placed)
     (made moment c.args.session c.args.change c.args.changed s t n (record { comes = e.adds.0; is = e.adds.1; adds = e.adds.2 }) p e.of.0 e.of.1 e.ok.asked
     (needs s (keeping old) c.args.change c.args.changed)
-    (λ db. c.commits_need_what_they_cost.ensures s (keeping old) c.args.change c.args.changed db c.is_at.ensures.at c.requires.asked)
+    (λ db. c.commits_need_what_they_cost.ensures s (keeping old) c.args.change c.args.changed db c.is_at.ensures.at.at c.requires.asked)
     e.fits e.end c.seal.result c.seal.ensures.place c.seal.ensures.noted c.seal.ensures.adds)
 
 pub returns-in-Ok-clause-typed : goal.returns-in-Ok-clause-typed
@@ -50,7 +50,7 @@ returns-in-Ok-clause-typed g c =
     if_ok _ _ c.seal.result (λ place m. m.typed)
     (made moment c.args.session c.args.change c.args.changed s t n (record { comes = e.adds.0; is = e.adds.1; adds = e.adds.2 }) p e.of.0 e.of.1 e.ok.asked
     (needs s (keeping old) c.args.change c.args.changed)
-    (λ db. c.commits_need_what_they_cost.ensures s (keeping old) c.args.change c.args.changed db c.is_at.ensures.at c.requires.asked)
+    (λ db. c.commits_need_what_they_cost.ensures s (keeping old) c.args.change c.args.changed db c.is_at.ensures.at.at c.requires.asked)
     e.fits e.end c.seal.result c.seal.ensures.place c.seal.ensures.noted c.seal.ensures.adds)
 
 pub returns-in-Ok-clause-may : goal.returns-in-Ok-clause-may
@@ -65,7 +65,7 @@ returns-in-Ok-clause-may g c =
     if_ok _ _ c.seal.result (λ place m. m.may)
     (made moment c.args.session c.args.change c.args.changed s t n (record { comes = e.adds.0; is = e.adds.1; adds = e.adds.2 }) p e.of.0 e.of.1 e.ok.asked
     (needs s (keeping old) c.args.change c.args.changed)
-    (λ db. c.commits_need_what_they_cost.ensures s (keeping old) c.args.change c.args.changed db c.is_at.ensures.at c.requires.asked)
+    (λ db. c.commits_need_what_they_cost.ensures s (keeping old) c.args.change c.args.changed db c.is_at.ensures.at.at c.requires.asked)
     e.fits e.end c.seal.result c.seal.ensures.place c.seal.ensures.noted c.seal.ensures.adds)
 
 pub returns-in-Ok-clause-next : goal.returns-in-Ok-clause-next
@@ -80,7 +80,7 @@ returns-in-Ok-clause-next g c =
     if_ok _ _ c.seal.result (λ place m. m.next)
     (made moment c.args.session c.args.change c.args.changed s t n (record { comes = e.adds.0; is = e.adds.1; adds = e.adds.2 }) p e.of.0 e.of.1 e.ok.asked
     (needs s (keeping old) c.args.change c.args.changed)
-    (λ db. c.commits_need_what_they_cost.ensures s (keeping old) c.args.change c.args.changed db c.is_at.ensures.at c.requires.asked)
+    (λ db. c.commits_need_what_they_cost.ensures s (keeping old) c.args.change c.args.changed db c.is_at.ensures.at.at c.requires.asked)
     e.fits e.end c.seal.result c.seal.ensures.place c.seal.ensures.noted c.seal.ensures.adds)
 
 pub returns-in-Ok-clause-fits : goal.returns-in-Ok-clause-fits
@@ -95,7 +95,7 @@ returns-in-Ok-clause-fits g c =
     if_ok _ _ c.seal.result (λ place m. m.fits)
     (made moment c.args.session c.args.change c.args.changed s t n (record { comes = e.adds.0; is = e.adds.1; adds = e.adds.2 }) p e.of.0 e.of.1 e.ok.asked
     (needs s (keeping old) c.args.change c.args.changed)
-    (λ db. c.commits_need_what_they_cost.ensures s (keeping old) c.args.change c.args.changed db c.is_at.ensures.at c.requires.asked)
+    (λ db. c.commits_need_what_they_cost.ensures s (keeping old) c.args.change c.args.changed db c.is_at.ensures.at.at c.requires.asked)
     e.fits e.end c.seal.result c.seal.ensures.place c.seal.ensures.noted c.seal.ensures.adds)
 
 pub returns-in-Ok-clause-err : goal.returns-in-Ok-clause-err
@@ -121,7 +121,7 @@ returns-in-Ok-clause-cause g c =
     let p = c.in-Ok.prepared in
     stopped_causes moment c.args.session c.args.change c.args.changed s t n (record { comes = e.adds.0; is = e.adds.1; adds = e.adds.2 }) p e.of.0 e.of.1
     (needs s (keeping old) c.args.change c.args.changed)
-    (λ db. c.commits_need_what_they_cost.ensures s (keeping old) c.args.change c.args.changed db c.is_at.ensures.at c.requires.asked)
+    (λ db. c.commits_need_what_they_cost.ensures s (keeping old) c.args.change c.args.changed db c.is_at.ensures.at.at c.requires.asked)
     e.fits e.end c.seal.result c.requires.pinned c.seal.ensures.noted c.seal.ensures.adds c.seal.ensures.cause
 
 pub returns-in-Err-clause-cause : goal.returns-in-Err-clause-cause
@@ -134,5 +134,5 @@ returns-in-Err-clause-cause g c =
     subst (λ (fault : CommitFault). IsUncommitted moment c.args.session c.args.change t fault) (sym c.refused.ensures)
     (refused_so moment c.args.session c.args.change s t (record { comes = e.adds.0; is = e.adds.1; adds = e.adds.2 }) Prepared
     (needs s (keeping old) c.args.change c.args.changed)
-    (λ db. c.commits_need_what_they_cost.ensures s (keeping old) c.args.change c.args.changed db c.is_at.ensures.at c.requires.asked)
+    (λ db. c.commits_need_what_they_cost.ensures s (keeping old) c.args.change c.args.changed db c.is_at.ensures.at.at c.requires.asked)
     c.in-Err.fault e.fits e.end)
