@@ -32,6 +32,7 @@ const OPTIONS: Options = Options {
 pub(crate) const LIMITS: Limits = Limits {
     pages: 65_536,
     history: 1_048_576,
+    cache: 0,
 };
 
 /// The name of the standard streams.

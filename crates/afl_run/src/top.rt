@@ -75,7 +75,11 @@ pub fn run<F: Shelf, R: Threads + Wait + Sync, G: Gate>(
                 scripts,
             },
         ) => {
-            let limits = Limits { pages, history };
+            let limits = Limits {
+                pages,
+                history,
+                cache: 0,
+            };
             let Printing { csv, trace } = printing;
             let style = Style { csv, trace };
             let options = Options { workers, style };

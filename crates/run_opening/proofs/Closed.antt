@@ -15,7 +15,7 @@ use Rattle.run_opening.specs.Held.{HoldsHistory}
 holds : {D : Type 0} (moment : D → Moment) (parts : StoreParts D) → AreParts moment parts → (db : Database) → BeganAs (moment parts.opened.value.disk).state db
     → HoldsHistory moment (standing moment parts) db
 holds moment parts at db began =
-    let cells = at.cells db began in
+    let cells = at.at.cells db began in
     record {
       legal = cells.legal;
       doubt = cells.doubt;

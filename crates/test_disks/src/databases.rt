@@ -16,6 +16,7 @@ use test_quiet::{Answer, QuietDisk, SilentDisk};
 const LIMITS: Limits = Limits {
     pages: 512,
     history: 64,
+    cache: 0,
 };
 
 /// An empty file that was made a database.

@@ -10,6 +10,7 @@ use test_kit::{Transcript, push_word, push_words};
 pub(crate) const LIMITS: Limits = Limits {
     pages: 512,
     history: 1024,
+    cache: 0,
 };
 
 /// What a store held before a change, and what it holds with it.

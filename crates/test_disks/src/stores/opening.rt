@@ -12,7 +12,11 @@ use test_quiet::pair_of;
 /// How many pages and how many entries a store may have, by a text as `64 100`.
 pub fn limits_of(text: &str) -> Limits {
     let (pages, history) = pair_of(text);
-    Limits { pages, history }
+    Limits {
+        pages,
+        history,
+        cache: 0,
+    }
 }
 
 /// Lets a store go, with its disk.

@@ -18,7 +18,7 @@ returns-in-Ok-clause-runs g c text begins =
     let e = c.report_of.ensures in
     generated_reported state sink_state old text r.shelf c.open_reply.new.shelf r.notice run.notice r.history run.history r.generated r.generated r.free_pages run.free_pages
     e.shelf e.notice e.history refl e.free_pages
-    (generates_ran sink_state old now s.others text made.disk (record { pages = 65536; history = 1048576 }) own run c.requires.empty begins s.new s.content s.handed refl refl
+    (generates_ran sink_state old now s.others text made.disk (record { pages = 65536; history = 1048576; cache = 0 }) own run c.requires.empty begins s.new s.content s.handed refl refl
     c.run_on_sink-run.ensures.run r.generated e.generated)
 
 pub returns-in-Err-clause-runs : goal.returns-in-Err-clause-runs

@@ -39,7 +39,7 @@ returns-in-Ok-clause-runs g c =
     RunsTry sure_disk_moment source sink old now n h reports f)
     r.shelf c.open_streams.new.shelf r.notice run.notice r.history run.history r.sessions run.sessions r.free_pages run.free_pages None None
     e.shelf e.notice e.history e.sessions e.free_pages refl
-    (tries_ran source sink old now c.args.disk (record { pages = 65536; history = 1048576 }) c.in-Ok.streams run c.requires.empty
+    (tries_ran source sink old now c.args.disk (record { pages = 65536; history = 1048576; cache = 0 }) c.in-Ok.streams run c.requires.empty
     (subst (λ (names : List Word). AreOpenedFor source sink old names c.in-Ok.streams) is s.opened)
     (subst (λ (names : List Word). LeavesUnasked (stream_names names) old now) is s.others)
     (subst (λ (names : List Word). HandsOut (length names) old now) is s.handed) refl refl c.run_over-run.ensures.run)
