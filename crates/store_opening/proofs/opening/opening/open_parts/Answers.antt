@@ -40,3 +40,6 @@ pub returns-in-Err-clause-told : goal.returns-in-Err-clause-told
 returns-in-Err-clause-told g c =
     let file = c.args.file in
     wrong_so c.in-Err.cause (g.D.Disk.moment file.disk).state.seen file.slots c.requires.opens c.in-Err.ensures.wrong
+
+pub returns-in-Ok-clause-cache : goal.returns-in-Ok-clause-cache
+returns-in-Ok-clause-cache g c = c.put_together.ensures.cache_is
