@@ -1,8 +1,9 @@
-//! How catalogues are read and spelled, and what a file keeps: for programs of tests that have tables of such cases.
+//! How catalogues are read and spelled, what a file keeps, and what a cache of chunks gives: for programs of tests that have tables of such cases.
 //!
 //! In a table a line that begins with `##` is a title, and is printed as it is; each other line is printed behind `> `, above its answer.
 #![tactic(auto)]
 
+mod caches;
 mod catalogs;
 mod digits;
 mod directories;
@@ -10,6 +11,7 @@ mod opens;
 mod spelled;
 mod told;
 
+use caches::push_caches;
 use cell_values::Bytes;
 use spelled::push_line;
 use test_kit::{Transcript, begin_answer, push_words};
@@ -32,10 +34,11 @@ fn push_spelled(out: &mut Transcript, title: &str, text: &str) {
     drop(bytes);
 }
 
-/// Adds the title of a table of catalogues or files, and what comes of its lines; nothing where the title is another one.
+/// Adds the title of a table of catalogues, files or caches, and what comes of its lines; nothing where the title is another one.
 pub fn push_catalog_table(out: &mut Transcript, title: &str, text: &str) {
     match title {
         "catalogues" | "files" => push_spelled(out, title, text),
+        "caches" => push_caches(out, title, text),
         _ => {}
     }
 }
