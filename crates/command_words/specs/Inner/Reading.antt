@@ -128,13 +128,13 @@ form_from verbs.Dump workers pages history printing dump scripts = Dump 1 pages 
 form_from verbs.Restore workers pages history printing dump scripts = Restore 1 pages
 
 -- the form of a verb with these options
-abbrev pub form_of : Verb → Settings → Form
-form_of verb settings =
+abbrev pub form_for : Verb → Settings → Form
+form_for verb settings =
     form_from verb (unwrap_or settings.workers 4) (unwrap_or settings.pages 65536) (unwrap_or settings.history 1048576)
     (record { csv = settings.csv; trace = settings.trace }) settings.dump (place_of settings)
 
 abbrev pub scripts_outcome : Settings → Option ℕ → Result Form ℕ
-scripts_outcome settings None = Ok (form_of verbs.Run settings)
+scripts_outcome settings None = Ok (form_for verbs.Run settings)
 scripts_outcome settings (Some place) = Err (place_of settings + place)
 
 abbrev pub read_scripts : Word → List Word → Settings → List Word → Result Form ℕ
@@ -143,8 +143,8 @@ read_scripts device backup settings words = scripts_outcome settings (wrong_from
 -- no word stands behind the options
 abbrev pub read_none : Verb → Settings → Result Form ℕ
 read_none verbs.Run settings = Err (place_of settings)
-read_none verbs.Dump settings = Ok (form_of verbs.Dump settings)
-read_none verbs.Restore settings = Ok (form_of verbs.Restore settings)
+read_none verbs.Dump settings = Ok (form_for verbs.Dump settings)
+read_none verbs.Restore settings = Ok (form_for verbs.Restore settings)
 
 -- some words do
 abbrev pub read_more : Verb → Word → List Word → Settings → List Word → Result Form ℕ

@@ -2,7 +2,7 @@
 ghost use Rattle.std.specs.Prelude.{◌≡◌, ◌↔◌, ℕ};
 ghost use Rattle.command_words.specs.Forms.{IsForm};
 ghost use Rattle.command_words.specs.Faults.{IsFault};
-ghost use Rattle.command_words.specs.Inner.Reading.{backup_after, form_of, read_device, read_generate, read_more, read_none};
+ghost use Rattle.command_words.specs.Inner.Reading.{backup_after, form_for, read_device, read_generate, read_more, read_none};
 ghost use Rattle.command_words.specs.Inner.Reading.{read_options, read_scripts, read_settings, read_try, read_words, read_workers};
 
 use crate::words::arg::Arg;
@@ -182,7 +182,7 @@ fn read_none(verb: Verb, settings: Settings) -> Result<Form, u32>
 {
     match verb {
         Verb::Run => Err(settings.place()),
-        Verb::Dump | Verb::Restore => Ok(form_of(verb, settings)),
+        Verb::Dump | Verb::Restore => Ok(form_for(verb, settings)),
     }
 }
 
@@ -212,13 +212,13 @@ fn read_scripts(
 {
     match wrong_script(device, backup, words) {
         Some(place) => Err(settings.place() + place),
-        None => Ok(form_of(Verb::Run, settings)),
+        None => Ok(form_for(Verb::Run, settings)),
     }
 }
 
 /// The form of a verb with these options.
-fn form_of(verb: Verb, settings: Settings) -> Form
-    ensures { result ≡ form_of verb settings }
+fn form_for(verb: Verb, settings: Settings) -> Form
+    ensures { result ≡ form_for verb settings }
 {
     let pages = settings.pages.unwrap_or(DEFAULT_PAGES);
     let history = settings.history.unwrap_or(DEFAULT_HISTORY);
