@@ -1,13 +1,12 @@
 -- Where a device, scripts and the name of a backup stand.
-use Rattle.std.proofs.Common.{◌≡◌, ◌+◌, ◌≤◌, ℕ, Bool, true, false, cond, Option, None, Some, List, [], ◌∷◌, ◌++◌, length, drop, refl, sym, ap, subst, ◌∙◌, arith, append_assoc, length-append, drop_at}
+use Rattle.std.proofs.Common.{◌≡◌, ◌+◌, ◌≤◌, ℕ, Bool, true, false, cond, Option, Some, List, [], ◌∷◌, ◌++◌, length, drop, refl, sym, ap, subst, ◌∙◌, arith, append_assoc, length-append, drop_at}
 use Rattle.std.specs.Prelude.{slice_get, codes, flat_map}
 use Rattle.std.proofs.lemmas.Bool.{cond_both}
-use Rattle.command_words.specs.declared.words.forms.Printing.{Printing}
 use Rattle.command_words.specs.declared.words.settings.RunOption.{RunOption}
 use Rattle.command_words.specs.declared.words.settings.RunOption.TheVariants.{DumpTo}
 use Rattle.command_words.specs.declared.words.settings.Verb.{Verb}
-use Rattle.command_words.specs.Forms.{Word, Setting, HasOptions, IsAlone, IsRun, backup_names, is_option, option_word, place_in, said_words, setting_words}
-use Rattle.command_words.specs.Laws.{FormsNameTheirDevice, IsNamedAt, RunsNameTheirBackup, RunsNameTheirScripts, FormsKeepTheirPlaces}
+use Rattle.command_words.specs.Forms.{Word, Setting, HasOptions, IsAlone, backup_names, is_option, option_word, place_in, said_words, setting_words}
+use Rattle.command_words.specs.Laws.{IsNamedAt, RunsNameTheirBackup, RunsNameTheirScripts, FormsKeepTheirPlaces}
 use Rattle.command_words.proofs.Names.{same_bytes}
 use Rattle.command_words.proofs.Options.{none_of, option_word-same, tally, tally-cons}
 

@@ -1,5 +1,5 @@
 -- What is read of words is their form, or the place where they leave the forms.
-use Rattle.std.proofs.Common.{◌≡◌, ℕ, ◌+◌, ◌≤◌, not, append-nil, Bool, true, false, cond, Option, None, Some, Result, Ok, Err, List, [], ◌∷◌, ◌++◌, length, refl, sym, ap, subst, ◌∙◌, arith, true≢false, lit≤}
+use Rattle.std.proofs.Common.{◌≡◌, ℕ, ◌+◌, ◌≤◌, not, append-nil, Bool, true, false, cond, Option, None, Some, Result, Err, List, [], ◌∷◌, ◌++◌, length, refl, sym, ap, subst, ◌∙◌, arith, true≢false, lit≤}
 use Rattle.std.specs.Prelude.{codes, flat_map}
 use Rattle.std.specs.Str.{bytes_eq}
 use Rattle.std.specs.Str.Parse.{digits_value}
@@ -10,8 +10,8 @@ use Rattle.command_words.specs.declared.words.settings.RunOption.TheVariants.{Pa
 use Rattle.command_words.specs.declared.words.settings.Settings.{Settings}
 use Rattle.command_words.specs.declared.words.settings.Verb.{Verb}
 use Rattle.command_words.specs.declared.words.settings.Verb.TheVariants as verbs
-use Rattle.command_words.specs.Forms.{Word, Setting, backup_names, is_dashed, is_flag, said_words, setting_words, is_number_within, may_have, may_say, option_word}
-use Rattle.command_words.specs.Inner.Reading.{backup_after, form_for, is_free, number_within, with_name, with_pages, with_history, with_workers, with_said, with_trace, place_of, next_option, by_said, by_option, read_more, read_none, read_settings}
+use Rattle.command_words.specs.Forms.{Word, Setting, backup_names, is_dashed, is_flag, said_words, setting_words, is_number_within, option_word}
+use Rattle.command_words.specs.Inner.Reading.{backup_after, form_for, is_free, number_within, with_pages, with_history, with_workers, with_said, with_trace, place_of, next_option, by_said, by_option, read_more, read_none, read_settings}
 use Rattle.command_words.proofs.Names.{Good, fresh, fresh_differs, good_fresh, no_scripts}
 use Rattle.command_words.proofs.Places.{Judged, judged_first, judged_same, judged_step, missing, refused}
 use Rattle.command_words.proofs.Heads.{same_head, same_tail}

@@ -1,6 +1,6 @@
 -- The first word decides which form the words may have.
-use Rattle.std.proofs.Common.{◌≡◌, ℕ, ◌+◌, ◌≤◌, length, Option, None, true, false, cond, Result, Ok, Err, List, [], ◌∷◌, ◌++◌, refl, sym, ap, subst, ◌∙◌, arith, append-nil, true≢false, lit≤}
-use Rattle.std.specs.Prelude.{codes, flat_map, count_by}
+use Rattle.std.proofs.Common.{◌≡◌, ℕ, ◌+◌, ◌≤◌, length, None, true, false, cond, Result, Ok, Err, List, [], ◌∷◌, ◌++◌, refl, sym, ap, subst, ◌∙◌, arith, append-nil, true≢false, lit≤}
+use Rattle.std.specs.Prelude.{codes, flat_map}
 use Rattle.std.specs.List.{list_all, list_any}
 use Rattle.std.specs.Str.{bytes_eq}
 use Rattle.std.proofs.lemmas.Bool.{cond_both, or_parts, or_from}
@@ -10,9 +10,9 @@ use Rattle.command_words.specs.declared.words.settings.RunOption.{RunOption}
 use Rattle.command_words.specs.declared.words.settings.RunOption.TheVariants.{Pages, History, Workers, Format, Trace, DumpTo}
 use Rattle.command_words.specs.declared.words.settings.Verb.{Verb}
 use Rattle.command_words.specs.declared.words.settings.Verb.TheVariants as verbs
-use Rattle.command_words.specs.Forms.{Word, Setting, backup_names, setting_words, is_dashed, is_right, is_option, may_have, verb_name, IsForm, IsAlone, IsRun, HasOptions}
+use Rattle.command_words.specs.Forms.{Word, Setting, backup_names, setting_words, is_dashed, may_have, verb_name, IsForm, IsRun, HasOptions}
 use Rattle.command_words.specs.Inner.Reading.{no_settings, is_given, read_generate, read_options, read_device, read_try, read_words, read_settings}
-use Rattle.command_words.proofs.Names.{Good, no_scripts, same_bytes}
+use Rattle.command_words.proofs.Names.{no_scripts, same_bytes}
 use Rattle.command_words.proofs.Places.{Judged, judged_same, judged_step, missing, refused}
 use Rattle.command_words.proofs.Heads.{same_head, same_tail, unlike}
 use Rattle.command_words.proofs.Options.{IsTail, MayEnd, Stands, count, form_with}
