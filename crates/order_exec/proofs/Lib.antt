@@ -5,7 +5,9 @@ pub mod CountedLaws
 pub mod CountedSortLaws
 pub mod FewLaws
 pub mod FoundSortLaws
+pub mod GroupNumberLaws
 pub mod GroupOrderLaws
+pub mod GroupPlaceLaws
 pub mod HullLaws
 pub mod KeyedLaws
 pub mod LineLaws
@@ -13,6 +15,7 @@ pub mod NumberedChunkLaws
 pub mod NumberedLaws
 pub mod PartLaws
 pub mod RankLaws
+pub mod RankedChunkLaws
 pub mod RankedRowsLaws
 pub mod RunLaws
 pub mod SortLaws

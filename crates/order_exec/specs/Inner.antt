@@ -1,8 +1,11 @@
 pub mod ByChunk
 pub mod Counted
+pub mod GroupNumbers
+pub mod GroupPlaces
 pub mod Hulls
 pub mod Keyed
 pub mod Ranked
+pub mod RankedChunks
 pub mod RankedRows
 pub mod Running
 pub mod Sorted

@@ -9,6 +9,7 @@ ghost use Rattle.logical_plan.specs.Typing.{ranks};
 ghost use Rattle.order_exec.specs.Inner.RankedRows.{AreRanked};
 ghost use Rattle.order_exec.specs.Meant.{rank_meant};
 
+use crate::column_ranks::ranked_by_columns;
 use crate::ranked_rows::ranked_rows;
 use area_cells::assemble;
 use array_geom::{ChunkedArray, margins_of};
@@ -43,6 +44,9 @@ pub fn rank(
     ensures array { IfOk result (λ made. Is made (rank_meant attribute dims.now (meant_by_cores array))) }
     ensures margins { IfOk result (λ made. made.margins.items ≡ overlaps target.now.dimensions) }
 {
+    if let Some(made) = ranked_by_columns(&array, attribute, dims, target)? {
+        return Ok(made);
+    }
     let rows = rows_of_cores(array)?;
     let ranked = counted_ranks(attribute, dims, rows)?;
     let margins = margins_of(target);

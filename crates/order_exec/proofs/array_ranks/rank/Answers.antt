@@ -9,6 +9,9 @@ use Rattle.order_exec.proofs.array_ranks.rank.Goals as goal
 pub counted_ranks-requires : goal.counted_ranks-requires
 counted_ranks-requires c = few_named c.args.array.schema c.args.target.now c.args.attribute c.args.dims.now c.requires.target c.requires.valid c.requires.ranks
 
+pub ranked_by_columns-requires-clause-names : goal.ranked_by_columns-requires-clause-names
+ranked_by_columns-requires-clause-names c = few_named c.args.array.schema c.args.target.now c.args.attribute c.args.dims.now c.requires.target c.requires.valid c.requires.ranks
+
 pub assemble-requires-clause-rows : goal.assemble-requires-clause-rows
 assemble-requires-clause-rows c =
     ranked_are_rows c.args.array.schema c.args.target.now c.args.attribute c.args.dims.now c.in_ok-rows.rows c.as_slice.result.now (of_cores c.args.array c.in_ok-rows.rows c.in_ok-rows.ensures.rows (c.requires.cells c.requires.whole))
