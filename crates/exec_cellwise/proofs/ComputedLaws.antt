@@ -95,6 +95,12 @@ are_long_columns low lengths places rows more columns count each all is =
 
 -- ---- cells
 
+-- rows with others behind them, as cells
+pub full_behind : (rows more : List (List Datum)) → map Full (by_pairs (λ (row others : List Datum). row ++ others) rows more) ≡ by_pairs behind rows more
+full_behind [] more = refl
+full_behind (r ∷ rows) [] = refl
+full_behind (r ∷ rows) (o ∷ more) = ap (λ (cells : List Cell). behind r o ∷ cells) (full_behind rows more)
+
 pub cells_are : (low : List ℤ) (lengths places : List ℕ) (more : List Applied) (rows : List (List Datum))
     → by_pairs behind rows (by_pairs (values_there low lengths more) places rows) ≡ by_pairs (applied_at low lengths more) places (map Full rows)
 cells_are low lengths [] more [] = refl
@@ -107,9 +113,6 @@ pub cells_applied : (low : List ℤ) (lengths places : List ℕ) (more : List Ap
 cells_applied low lengths places more rows behind_them (Err e) is from = tt
 cells_applied low lengths places more rows behind_them (Ok cells) is from = from ∙ ap (by_pairs behind rows) is ∙ cells_are low lengths places more rows
 
-pub found_cells : (P : List Cell → Type 0) (r : Result (Option (List Cell)) Memory) (cells : List Cell) → r ≡ Ok (Some cells) → IfOk r (λ made. IfSome made P) → P cells
-found_cells P r cells is found = subst (λ (x : Result (Option (List Cell)) Memory). IfOk x (λ made. IfSome made P)) is found
-
 stays : (low : List ℤ) (lengths : List ℕ) (more : List Applied) (p : ℕ) (x : Cell) → apply_cell more (coordinate_in low lengths p) x ≡ Some (applied_at low lengths more p x)
 stays low lengths more p (Full vs) = refl
 stays low lengths more p (Doubt kind) = refl
@@ -121,6 +124,11 @@ rows_applied low lengths (p ∷ positions) more [] = refl
 rows_applied low lengths (p ∷ positions) more (x ∷ cells) =
     ap (λ (rows : List Row). placed (coordinate_in low lengths p) (applied_at low lengths more p x) ∷ rows) (rows_applied low lengths positions more cells)
     ∙ ap (λ (o : Option Cell). put_first (coordinate_in low lengths p) o (apply_rows more (rows_in low lengths positions cells))) (sym (stays low lengths more p x))
+
+pub cells_of_rows : (low : List ℤ) (lengths : List ℕ) (more : List Applied) (ps positions : List ℕ) (rows : List (List Datum)) (cells made : List Cell)
+    → made ≡ by_pairs (applied_at low lengths more) ps (map Full rows) → ps ≡ positions → map Full rows ≡ cells → made ≡ by_pairs (applied_at low lengths more) positions cells
+cells_of_rows low lengths more ps positions rows cells made is p c =
+    is ∙ ap (λ (qs : List ℕ). by_pairs (applied_at low lengths more) qs (map Full rows)) p ∙ ap (by_pairs (applied_at low lengths more) positions) c
 
 -- the chunk of the same number and positions with these cells
 pub applied_made : (more : List Applied) (dims : List Dimension) (margins : List ℕ) (low : List ℤ) (lengths : List ℕ) (old new : Chunk) → low ≡ frame_low dims margins old.at.items → lengths ≡ frame_lengths dims margins
