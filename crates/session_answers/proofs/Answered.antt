@@ -51,6 +51,7 @@ use Rattle.snapshot_manager.specs.Start.{Start}
 use Rattle.session_sources.specs.Stored.{BeginsDamage}
 use Rattle.snapshot_manager.specs.Told.{entries_in, ledger_of, told, IsTold}
 use Rattle.session_answers.specs.Refusals.{IsUncommittedReply, IsUnreadReply, IsWant, Refuses}
+use Rattle.session_answers.proofs.PinPlaces.{get_seam}
 use Rattle.session_answers.proofs.Staying.{says_later}
 use Rattle.session_answers.specs.Acts.{acts_in, looking, making, makes, tries, trying}
 use Rattle.session_answers.specs.Replies.{names_before, words_of, BeganAsNone, EnteredAt, HadRoomFor, HasLine, HoldsWhereRefused, IsAllowedAt, IsChangeAt, IsDamagedPage, IsToldFor, Says, SaysChange, WasUncommitted}
@@ -67,11 +68,6 @@ use Rattle.session_answers.proofs.TurnsTold.{answered, earlier_pin, later_refuse
 enough_by : (comes : Bool) (xs ys : List Entry) → ys ≡ xs ++ (if comes then Reap ∷ [] else []) → length xs ≤ length ys
 enough_by true xs ys e = let count : length ys ≡ length (xs ++ Reap ∷ []) = ap (λ (es : List Entry). length es) e in omega (arith, count, length-append xs (Reap ∷ []))
 enough_by false xs ys e = let count : length ys ≡ length (xs ++ []) = ap (λ (es : List Entry). length es) e in omega (arith, count, length-append xs [])
-
--- the element behind others
-get_behind : {A : Type 0} → (xs ys : List A) (x : A) → slice_get (xs ++ x ∷ ys) (length xs) ≡ Some x
-get_behind [] ys x = refl
-get_behind (y ∷ xs) ys x = get_behind xs ys x
 
 module _ {D : Type 0} (style : Style) (moment : D → Moment) (session : ℕ) (old new : Turn (StoreParts D)) (text : List ℕ) (tree : Term) (reply : Reply)
     (keeps : KeepsTurn moment session old new)
@@ -331,7 +327,7 @@ module _ {D : Type 0} (style : Style) (moment : D → Moment) (session : ℕ) (o
       entered : EnteredAt pin entry reply.place (events n)
       entered = record {
         is = ap (λ (es : List Entry). slice_get es reply.place) entries_made
-            ∙ subst (λ (k : ℕ). slice_get (entries_in front ++ entry ∷ []) k ≡ Some entry) here (get_behind (entries_in front) [] entry);
+            ∙ subst (λ (k : ℕ). slice_get (entries_in front ++ entry ∷ []) k ≡ Some entry) here (get_seam (entries_in front) [] entry);
         later = let lt = since_made in omega (arith, lt);
       }
 

@@ -49,11 +49,8 @@ use Rattle.session_answers.proofs.Behind.{names_behind}
 use Rattle.session_answers.specs.AnsweredUnder.{IsAnsweredInTurn, IsAnsweredUnder}
 use Rattle.session_answers.specs.Inner.Steps.{AddsNoAct, Tells}
 use Rattle.session_answers.proofs.Acts.{acts_behind, fault_is_own}
+use Rattle.session_answers.proofs.PinPlaces.{get_seam}
 use Rattle.session_answers.proofs.Tried.{change_at_commit, commit_place, fault_entries, before_commit, new_is, own_first, says_at_commit, try_acts, within_commit}
-
-get_seam : {A : Type 0} → (xs ys : List A) (y : A) → slice_get (xs ++ y ∷ ys) (length xs) ≡ Some y
-get_seam [] ys y = refl
-get_seam (x ∷ xs) ys y = get_seam xs ys y
 
 -- ---- a change that is accepted refuses nothing
 

@@ -57,7 +57,7 @@ of_change style words names (Remove name) k = no_change style words names (Remov
 of_change style words names (RemoveVersions name below) k = no_change style words names (RemoveVersions name below) k
 
 of_text : (style : Style) (lines : List ℕ) (schema : Schema) (words : Told) → IsTextOrRefusal style lines schema words → Words words
-of_text style lines schema words (inl (rows, e)) = tells (ap (λ (r : Told). r.refusal) e)
+of_text style lines schema words (inl (rows, are, e)) = tells (ap (λ (r : Told). r.refusal) e)
 of_text style lines schema words (inr (broken, e)) = fails broken e
 
 of_rows : (style : Style) (words : Told) (plan : Query) → IsRowsReply style plan words → Words words

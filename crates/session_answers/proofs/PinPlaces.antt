@@ -39,7 +39,8 @@ found_behind session (Unpin other ∷ h) before e = at_unpin (nat_eq other sessi
 found_behind session (Commit other change used ∷ h) before e = further session (Commit other change used) h before (found_behind session h before e)
 found_behind session (Reap ∷ h) before e = further session Reap h before (found_behind session h before e)
 
-get_seam : {A : Type 0} → (xs ys : List A) (y : A) → slice_get (xs ++ y ∷ ys) (length xs) ≡ Some y
+-- the element behind others
+pub get_seam : {A : Type 0} → (xs ys : List A) (y : A) → slice_get (xs ++ y ∷ ys) (length xs) ≡ Some y
 get_seam [] ys y = refl
 get_seam (x ∷ xs) ys y = get_seam xs ys y
 

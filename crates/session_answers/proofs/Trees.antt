@@ -1,9 +1,10 @@
 -- The answer to a tree, about its pin and its unpin.
-use Rattle.std.proofs.Common.{◌≡◌, ◌∙◌, ◌≤◌, ℕ, Bool, true, false, List, [], ◌∷◌, ◌++◌, length, inl, inr, Option, None, Some, refl, ap, sym, subst, arith, append-nil}
+use Rattle.std.proofs.Common.{◌≡◌, ◌∙◌, ◌≤◌, ℕ, Bool, true, false, List, [], ◌∷◌, ◌++◌, length, slice_get, inl, inr, Option, None, Some, refl, ap, sym, subst, arith, append-nil}
 use Rattle.std.specs.List.{list_all}
 use Rattle.std.proofs.lemmas.Bool.{eq-eqb, true≢false}
 use Rattle.afl_outside.specs.Disk.{Moment}
 use Rattle.afl_trees.specs.Term.{Term}
+use Rattle.event_core.specs.declared.entry.Entry.{Entry}
 use Rattle.event_core.specs.declared.entry.Entry.TheVariants.{Pin, Unpin}
 use Rattle.logical_plan.specs.declared.names.Names.{Names}
 use Rattle.result_print.specs.declared.refusal.Refusal.{Refusal}
@@ -18,20 +19,21 @@ use Rattle.store_state.specs.declared.state.event.Event.{Event}
 use Rattle.store_state.specs.declared.state.event.Event.TheVariants.{Entered}
 use Rattle.snapshot_manager.specs.Turns.{found_before, own_events, pin_event, Adds}
 use Rattle.snapshot_manager.proofs.Turning.{turns_find}
+use Rattle.array_store.proofs.Telling.{entries_in-append}
 use Rattle.session_answers.specs.Acts.{Act, Course, acts_for, acts_in, begins, ends, nothing, looking, trying, making}
 use Rattle.session_answers.specs.Refusals.{IsWant, Refuses}
 use Rattle.session_answers.specs.Replies.{names_before, EnteredAt, HadNoRoom, HasLine, IsToldFor, WasAt}
 use Rattle.session_answers.specs.declared.replies.reply.Reply.{Reply}
 use Rattle.session_answers.proofs.ActsJoined.{acts_join}
 use Rattle.session_answers.proofs.Beginnings.{reached}
-use Rattle.session_answers.proofs.PinPlaces.{open_pins_are_entered}
+use Rattle.session_answers.proofs.PinPlaces.{get_seam, open_pins_are_entered}
 use Rattle.session_answers.proofs.Staying.{entered_later, replies_stay}
 use Rattle.session_sources.specs.Courses.{AddsOwn}
 use Rattle.snapshot_manager.specs.Start.{Start}
 use Rattle.snapshot_manager.specs.Told.{entries_in, is_sealed, ledger_of}
 use Rattle.session_sources.proofs.CourseLaws.{courses_join, turns_are_courses}
 use Rattle.session_answers.specs.AnsweredUnder.{IsAnsweredUnder}
-use Rattle.session_answers.specs.Answered.{BeganAt}
+use Rattle.session_answers.specs.Answered.{BeganAt, EndedAt}
 use Rattle.session_answers.specs.Inner.Tree.{IsAnsweredTree, TellsUnpinned}
 use Rattle.session_answers.specs.Reads.{CountsAt, ReadsOnce}
 use Rattle.session_answers.proofs.Counting.{counts_then, refusal_refuses, want_refuses}
@@ -53,6 +55,22 @@ began_at session pin old new nothing e = tt
 began_at session pin old new looking e = e
 began_at session pin old new (trying change) e = e
 began_at session pin old new (making change) e = e
+
+ended_at : (session place unpin : ℕ) (new : List Event) (course : Course) → EnteredAt place (Unpin session) unpin new → EndedAt session place unpin new course
+ended_at session place unpin new nothing e = tt
+ended_at session place unpin new looking e = e
+ended_at session place unpin new (trying change) e = e
+ended_at session place unpin new (making change) e = e
+
+-- the last of some events is entered behind all before it
+entered_last : (session least : ℕ) (front new : List Event) → new ≡ front ++ Entered (Unpin session) ∷ [] → least ≤ length (entries_in front)
+    → EnteredAt least (Unpin session) (length (entries_in front)) new
+entered_last session least front new grown le = record {
+  is = ap (λ (es : List Event). slice_get (entries_in es) (length (entries_in front))) grown
+      ∙ ap (λ (es : List Entry). slice_get es (length (entries_in front))) (entries_in-append front (Entered (Unpin session) ∷ []))
+      ∙ get_seam (entries_in front) [] (Unpin session);
+  later = le;
+}
 
 abbrev has_acts : List Act → Bool
 has_acts [] = false
@@ -119,6 +137,9 @@ module _ {D : Type 0} (style : Style) (moment : D → Moment) (start : Start D) 
     adds = courses_join session (pin_event session ∷ []) (under.own ++ Entered (Unpin session) ∷ []) old mid new pin_adds rest_adds;
     acts = ap (λ (acts : List Act). begins ∷ acts) (acts_join under.own (Entered (Unpin session) ∷ [])) ∙ under.acts;
     began = began_at session pinned.place old new under.course entered;
+    unpin = length (entries_in (end ++ last.others));
+    ended = ended_at session reply.place (length (entries_in (end ++ last.others))) new under.course
+        (entered_last session reply.place (end ++ last.others) new last.grown (reached start end last.others reply.place under.until));
     line = under.line;
     later = (let le = behind_old in omega (arith, le, under.since));
     until = subst (λ (es : List Event). reply.place ≤ length (entries_in es)) (sym unpin_adds.grown) (reached start end unpin_adds.more reply.place under.until);
@@ -156,6 +177,8 @@ module _ {D : Type 0} (style : Style) (moment : D → Moment) (start : Start D) 
     adds = found;
     acts = refl;
     began = tt;
+    unpin = 0;
+    ended = tt;
     line = subst (λ (r : Option Refusal). HasLine reply r) (sym e) line;
     later = subst (λ (n : ℕ). length (entries_in old) ≤ n) (sym at) grown;
     until = omega (arith, at);

@@ -35,6 +35,8 @@ module _ {D : Type 0} (style : Style) (moment : D → Moment) (start : Start D) 
     adds = a.adds;
     acts = a.acts;
     began = a.began;
+    unpin = a.unpin;
+    ended = a.ended;
     line = a.line;
     told = λ t derives. (
       a.later,
@@ -57,6 +59,8 @@ module _ {D : Type 0} (style : Style) (moment : D → Moment) (start : Start D) 
     adds = courses_may_be_empty session old;
     acts = refl;
     began = tt;
+    unpin = 0;
+    ended = tt;
     line = refused_line (Some Memory) w.1 w.0;
     told = λ t derives. (
       omega (arith, at),
@@ -85,6 +89,8 @@ module _ {D : Type 0} (style : Style) (moment : D → Moment) (start : Start D) 
       adds = courses_may_be_empty session old;
       acts = refl;
       began = tt;
+      unpin = 0;
+      ended = tt;
       line = refused_line (Some (Parse at kind)) (ap (λ (words : Told). words.refusal) e) (ap (λ (words : Told). words.text) e);
       told = λ t derives. absurd (only_tree t derives);
       until = λ t derives. absurd (only_tree t derives);
@@ -98,6 +104,8 @@ module _ {D : Type 0} (style : Style) (moment : D → Moment) (start : Start D) 
       adds = courses_may_be_empty session old;
       acts = refl;
       began = tt;
+      unpin = 0;
+      ended = tt;
       line = refused_line (Some Memory) w.1 w.0;
       told = λ t derives. absurd (only_tree t derives);
       until = λ t derives. absurd (only_tree t derives);

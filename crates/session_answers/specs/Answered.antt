@@ -4,7 +4,7 @@ use Rattle.afl_outside.specs.Disk.{Moment}
 use Rattle.afl_trees.specs.Term.{Term}
 use Rattle.afl_trees.specs.Statement.{DerivesText, StopsText}
 use Rattle.afl_trees.specs.declared.kind.ParseKind.{ParseKind}
-use Rattle.event_core.specs.declared.entry.Entry.TheVariants.{Pin}
+use Rattle.event_core.specs.declared.entry.Entry.TheVariants.{Pin, Unpin}
 use Rattle.result_print.specs.declared.refusal.Refusal.TheVariants.{HistoryFull, Parse}
 use Rattle.statement_replies.specs.Reply.{refused}
 use Rattle.statement_replies.specs.declared.replies.style.Style.{Style}
@@ -27,6 +27,11 @@ abbrev pub BeganAt : ℕ → ℕ → List Event → List Event → Course → Ty
 BeganAt session pin old new nothing = Unit {0}
 BeganAt session pin old new course = EnteredAt (length (entries_in old)) (Pin session) pin new
 
+-- and its pin ended at a place, where that of its reply had come
+abbrev pub EndedAt : ℕ → ℕ → ℕ → List Event → Course → Type 0
+EndedAt session place unpin new nothing = Unit {0}
+EndedAt session place unpin new course = EnteredAt place (Unpin session) unpin new
+
 -- A STATEMENT IS ANSWERED, in a style of replies: behind all that its session had seen, and among others' events, it did this; its reply is
 -- that of its tree, or that of its stop, of which it has one; and the reply's place is behind all that the session had seen. Where the history
 -- is told to be full, it was so behind that too
@@ -38,6 +43,8 @@ pub record IsAnswered {D : Type 0} (style : Style) (moment : D → Moment) (star
   pub adds : AddsOwn session own old new
   pub acts : acts_in own ≡ acts_for course
   pub began : BeganAt session pin old new course
+  pub unpin : ℕ
+  pub ended : EndedAt session reply.place unpin new course
   pub line : HasLine reply reply.refusal
   pub told : (tree : Term) → DerivesText text tree
       → (length (entries_in old) ≤ reply.place) × IsToldFor moment start session pin new own text tree reply style reply.refusal course

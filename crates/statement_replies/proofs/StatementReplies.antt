@@ -1,5 +1,5 @@
 -- What a statement is answered, by what checking answers to its tree.
-use Rattle.std.proofs.Common.{◌≡◌, inl, inr, Option, Some, None, Ok, Err, refl, ap, ◌∙◌}
+use Rattle.std.proofs.Common.{◌≡◌, inl, inr, Option, Some, None, Ok, Err, IfOk, refl, ap, ◌∙◌}
 use Rattle.cell_values.specs.declared.datum.Broken.{Broken}
 use Rattle.logical_plan.specs.Query.{Query}
 use Rattle.plan_changes.specs.Databases.{Database, fault_of_change, names_of, rows_of}
@@ -12,7 +12,7 @@ use Rattle.afl_types.specs.Statements.{queried}
 use Rattle.afl_types.specs.declared.types.statements.checking.Typed.{Typed}
 use Rattle.afl_types.specs.declared.types.statements.checking.Typed.TheVariants.{Query as AQuery, Change as AChange, Versions, Show, ListArrays}
 use Rattle.statement_replies.specs.Reply.{checked_reply, traced}
-use Rattle.statement_replies.specs.StatementKinds.{HasChangeKind, HasStatementKind, HasTypedKind, IsAccepted, MayBreak, QueriesHaveTheirReplies, RepliesHaveStatementKinds}
+use Rattle.statement_replies.specs.StatementKinds.{HasChangeKind, HasStatementKind, HasTypedKind, HasTypedRows, IsAccepted, MayBreak, QueriesHaveTheirReplies, RepliesHaveStatementKinds}
 use Rattle.statement_replies.specs.Statements.{accepted, changed_or_broken, reply_to_checked, reply_to_typed, without_change}
 use Rattle.statement_replies.specs.Traces.{change_lines}
 use Rattle.statement_replies.specs.declared.replies.style.Style.{Style}
@@ -37,19 +37,20 @@ change_kind style db (Insert name schema plan) = may_break style db (Insert name
 change_kind style db (Remove name) = accepted_kind style db (Remove name)
 change_kind style db (RemoveVersions name below) = accepted_kind style db (RemoveVersions name below)
 
-typed_kind : (style : Style) (db : Database) (typed : Typed) → HasTypedKind style (names_of db) typed (reply_to_typed style db typed)
-typed_kind style db (AQuery plan) = (checked_kind style (rows_of db) (Ok plan), refl)
-typed_kind style db (AChange change) = change_kind style db change
-typed_kind style db (Versions name) = refl
-typed_kind style db (Show name) = refl
-typed_kind style db ListArrays = refl
+typed_kind : (style : Style) (db : Database) (typed : Typed) → HasTypedRows db typed → HasTypedKind style (names_of db) typed (reply_to_typed style db typed)
+typed_kind style db (AQuery plan) has = (checked_kind style (rows_of db) (Ok plan) has, refl)
+typed_kind style db (AChange change) has = change_kind style db change
+typed_kind style db (Versions name) has = refl
+typed_kind style db (Show name) has = refl
+typed_kind style db ListArrays has = refl
 
-statement_kind : (style : Style) (db : Database) (checked : Checked Typed) → HasStatementKind style (names_of db) checked (reply_to_checked style db checked)
-statement_kind style db (Ok typed) = typed_kind style db typed
-statement_kind style db (Err breach) = refl
+statement_kind : (style : Style) (db : Database) (checked : Checked Typed) → IfOk checked (HasTypedRows db)
+    → HasStatementKind style (names_of db) checked (reply_to_checked style db checked)
+statement_kind style db (Ok typed) has = typed_kind style db typed has
+statement_kind style db (Err breach) has = refl
 
 pub have_statement_kinds : RepliesHaveStatementKinds
-have_statement_kinds style db text tree = statement_kind style db (check_of tree text (names_of db))
+have_statement_kinds style db text tree has = statement_kind style db (check_of tree text (names_of db)) has
 
 -- ---- a statement that is a query
 

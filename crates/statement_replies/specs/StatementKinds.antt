@@ -15,7 +15,7 @@ use Rattle.afl_types.specs.Statements.{queried}
 use Rattle.afl_types.specs.declared.types.statements.checking.Typed.{Typed}
 use Rattle.afl_types.specs.declared.types.statements.checking.Typed.TheVariants.{Query as AQuery, Change as AChange, Versions, Show, ListArrays}
 use Rattle.result_print.specs.declared.refusal.Refusal.TheVariants.{Typing}
-use Rattle.statement_replies.specs.Kinds.{IsRowsReply}
+use Rattle.statement_replies.specs.Kinds.{HasRows, IsRowsReply}
 use Rattle.statement_replies.specs.Reply.{cell_reply, query_reply, refused, traced}
 use Rattle.statement_replies.specs.Statements.{Accepted, change_reply, list_reply, reply_to, show_reply, versions_reply, without_change}
 use Rattle.statement_replies.specs.Traces.{read_by}
@@ -55,9 +55,14 @@ abbrev pub HasStatementKind : Style → Names → Checked Typed → Accepted →
 HasStatementKind style names (Ok typed) answer = HasTypedKind style names typed answer
 HasStatementKind style names (Err breach) answer = answer ≡ without_change (refused (Typing breach.span breach.kind))
 
+-- the rows that a query means are of its plan's schema
+abbrev pub HasTypedRows : Database → Typed → Type 0
+HasTypedRows db (AQuery plan) = HasRows (rows_of db) plan
+HasTypedRows db typed = Unit {0}
+
 -- what is answered over a database is of that kind
 abbrev pub RepliesHaveStatementKinds : Type 0
-RepliesHaveStatementKinds = (style : Style) (db : Database) (text : List ℕ) (tree : Term)
+RepliesHaveStatementKinds = (style : Style) (db : Database) (text : List ℕ) (tree : Term) → IfOk (check_of tree text (names_of db)) (HasTypedRows db)
     → HasStatementKind style (names_of db) (check_of tree text (names_of db)) (reply_to style db text tree)
 
 -- a tree that is checked as a query has the reply to the query

@@ -3,17 +3,38 @@
 use afl_outside::{Gate, Point};
 use std::alloc::{AllocError, Global};
 use std::sync::{Condvar, Mutex, Wait};
+use std::thread::sleep;
 use std::time::{Clock, Duration};
 
 /// How long a session is held at most.
 const HELD_SECONDS: u64 = 20;
 
+/// How long a session stays at a point where it lets other threads run.
+const STAY_SECONDS: u64 = 2;
+
 /// A point of a session: the letter of its kind, and the number of its statement or chunk.
 #[derive(Clone, Copy, PartialEq, Eq, Drop)]
-struct Stop {
-    session: u32,
+pub(crate) struct Stop {
+    pub(crate) session: u32,
     letter: char,
-    number: u64,
+    pub(crate) number: u64,
+}
+
+impl Stop {
+    /// Whether a session stays here, before its statement of this number, and lets other threads run.
+    pub(crate) fn is_stay(self) -> bool {
+        self.letter == 'y'
+    }
+
+    /// The point before the statement of the same number, where a session stays.
+    fn place(self) -> Stop {
+        let letter = if self.is_stay() { 's' } else { self.letter };
+        Stop {
+            session: self.session,
+            letter,
+            number: self.number,
+        }
+    }
 }
 
 fn stop_at(session: u32, point: Point) -> Stop {
@@ -31,7 +52,7 @@ fn stop_at(session: u32, point: Point) -> Stop {
 }
 
 /// The stop of a word such as `0p2`. To one of another word nobody comes.
-fn stop_of(word: &str) -> Stop {
+pub(crate) fn stop_of(word: &str) -> Stop {
     let letter = word.chars().nth(1).unwrap_or(' ');
     let (session, number) = word.split_once(letter).unwrap_or((word, ""));
     Stop {
@@ -91,7 +112,10 @@ impl<'a, R: Wait + Clock + Sync> Gate for Ordered<'a, R> {
     fn pass(&self, session: u32, point: Point) {
         let stop = stop_at(session, point);
         for (place, other) in self.stops.iter().enumerate() {
-            if *other == stop {
+            if other.place() == stop {
+                if other.is_stay() {
+                    sleep(self.rt, Duration::from_secs(STAY_SECONDS));
+                }
                 self.pass_place(place);
             }
         }

@@ -8,13 +8,18 @@
 //! computed (`c`); or, as `0w2`, to piece 2 of the work on a statement. A session or a worker that comes to a stop which is named goes on
 //! once all stops before it in the list are behind their sessions. A stop that is named twice is reached at the first place, and left at
 //! the second. Where a session is held too long all stops are let go; it is told where the order wasn't kept.
+//!
+//! At `0y3` session 0 stays before its statement 3 for two seconds, while other threads run. It is told whether pages were made free
+//! meanwhile: whether a reap stands before the pin of that statement.
 
 use crate::capped::CappedShelf;
 use crate::files::shelf_of;
+use crate::order::{Stop, stop_of};
 use crate::runs::{file_behind, file_left, new_shelf, report_of, report_over};
 use crate::told::{end_words, push_bytes, push_notice};
 use afl_run::{Report, let_go_report};
 use cell_values::{Bytes, Memory};
+use event_core::Entry;
 use std::alloc::Global;
 use std::sync::Wait;
 use std::thread::Threads;
@@ -42,6 +47,36 @@ fn push_told(out: &mut Transcript, report: &Report<CappedShelf>) {
     for session in report.sessions.as_slice() {
         push_session(out, number, end_words(session.end).1, session.sink.bytes());
         number = number.saturating_add(1);
+    }
+}
+
+/// Whether a reap stands in the history before this session's pin of the statement of this number.
+fn is_reaped(history: &[Entry], stop: Stop) -> bool {
+    let mut pins = 0u64;
+    for entry in history {
+        match entry {
+            Entry::Reap => return true,
+            Entry::Pin { session } if *session == stop.session && pins == stop.number =>
+                return false,
+            Entry::Pin { session } if *session == stop.session => pins = pins.saturating_add(1),
+            _ => {}
+        }
+    }
+    false
+}
+
+/// Adds whether a reap came while a session stayed at a stop of the order.
+fn push_reaps(out: &mut Transcript, report: &Report<CappedShelf>, order: &str) {
+    for stop in order.split_whitespace().map(stop_of) {
+        if stop.is_stay() {
+            let before = if is_reaped(report.history.as_slice(), stop) {
+                "a reap before statement "
+            } else {
+                "no reap before statement "
+            };
+            push_numbered(out, before, stop.number, " of session ");
+            push_numbered(out, "", u64::from(stop.session), "\n");
+        }
     }
 }
 
@@ -125,11 +160,13 @@ fn push_beside<R: AllocGlobal + Threads + Wait + Clock + Sync>(
     rt: &R,
     out: &mut Transcript,
     made: Result<(Report<CappedShelf>, bool), Memory>,
+    order: &str,
     after: &str,
 ) {
     match made {
         Ok((report, is_kept)) => {
             push_report(out, &report, is_kept);
+            push_reaps(out, &report, order);
             let left = file_left(rt.alloc(), &report);
             let_go_report(report);
             push_after(rt, out, left, after);
@@ -150,7 +187,7 @@ fn push_case<R: AllocGlobal + Threads + Wait + Clock + Sync>(
     };
     let files = files_beside(rt, before, &[*first, *second]);
     let made = report_beside(rt, options, order, files);
-    push_beside(rt, out, made, after);
+    push_beside(rt, out, made, order, after);
 }
 
 fn parts_of<'a>(alloc: Global, line: &'a str) -> Result<Vec<&'a str>, Memory> {

@@ -20,7 +20,7 @@ use Rattle.session_sources.specs.Courses.{AddsOwn}
 use Rattle.session_answers.specs.Acts.{acts_for, acts_in, Course}
 use Rattle.session_answers.specs.Refusals.{IsWant, Refuses, RefusesAt}
 use Rattle.session_answers.specs.Replies.{HadNoRoom, HasLine, IsToldFor}
-use Rattle.session_answers.specs.Answered.{BeganAt}
+use Rattle.session_answers.specs.Answered.{BeganAt, EndedAt}
 use Rattle.session_answers.specs.declared.replies.reply.Reply.{Reply}
 use Rattle.session_answers.specs.declared.turns.settings.Options.{Options}
 
@@ -41,6 +41,8 @@ pub record IsAnsweredTree {D : Type 0} (style : Style) (moment : D → Moment) (
   pub adds : AddsOwn session own old new
   pub acts : acts_in own ≡ acts_for course
   pub began : BeganAt session pin old new course
+  pub unpin : ℕ
+  pub ended : EndedAt session reply.place unpin new course
   pub line : HasLine reply reply.refusal
   pub later : length (entries_in old) ≤ reply.place
   pub until : reply.place ≤ length (entries_in new)
