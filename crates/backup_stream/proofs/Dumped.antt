@@ -54,8 +54,8 @@ use Rattle.backup_writing.specs.declared.stop.WriteStop.TheVariants as stops
 use Rattle.backup_writing.proofs.Databases.{backups_are_of_databases}
 use Rattle.backup_stream.specs.Dumps.{end_of, HasEndCause, IsDamaged, IsDumped, IsDumpedUnder}
 use Rattle.backup_stream.specs.Inner.Steps.{IsUnpinned, WasWritten}
-use Rattle.backup_stream.specs.declared.report.BackupEnd.{BackupEnd}
-use Rattle.backup_stream.specs.declared.report.BackupEnd.TheVariants as dumps
+use Rattle.run_opening.specs.declared.reports.reports.BackupEnd.{BackupEnd}
+use Rattle.run_opening.specs.declared.reports.reports.BackupEnd.TheVariants as dumps
 
 -- ---- what went out, by how it ended
 

@@ -18,8 +18,8 @@ use Rattle.session_answers.specs.Replies.{BeganAsNone, EnteredAt, HadNoRoom, Has
 use Rattle.backup_format.specs.Backups.{backup}
 use Rattle.backup_writing.specs.declared.stop.WriteStop.{WriteStop}
 use Rattle.backup_writing.specs.declared.stop.WriteStop.TheVariants as stops
-use Rattle.backup_stream.specs.declared.report.BackupEnd.{BackupEnd}
-use Rattle.backup_stream.specs.declared.report.BackupEnd.TheVariants as ends
+use Rattle.run_opening.specs.declared.reports.reports.BackupEnd.{BackupEnd}
+use Rattle.run_opening.specs.declared.reports.reports.BackupEnd.TheVariants as ends
 
 -- how a backup ends, by how its writing does: a source fails where the disk does
 abbrev pub end_of : Result (Unit {0}) WriteStop → BackupEnd

@@ -4,9 +4,9 @@ ghost use Rattle.snapshot_manager.specs.Seats.{seen, session_of, start, HoldsNon
 ghost use Rattle.backup_stream.specs.Dumps.{end_of, IsDumped};
 ghost use Rattle.backup_stream.specs.Inner.Steps.{IsUnpinned, MayWrite, WasWritten};
 
-use crate::report::{BackupEnd, BackupReport};
 use afl_outside::{Disk, Gate, Point, Sink};
 use backup_writing::{WriteStop, write_backup};
+use run_opening::{BackupEnd, BackupReport};
 use session_sources::PinnedSource;
 use snapshot_manager::{Seat, Shared};
 use std::alloc::Global;

@@ -3,7 +3,6 @@
 #![tactic(auto)]
 
 mod dumping;
-mod report;
 
 pub use dumping::dump;
-pub use report::{BackupEnd, BackupReport};
+pub use run_opening::{BackupEnd, BackupReport};

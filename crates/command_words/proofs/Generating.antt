@@ -5,7 +5,7 @@ use Rattle.std.specs.Str.{bytes_eq}
 use Rattle.std.specs.Str.Parse.{digits_value}
 use Rattle.std.proofs.lemmas.Bool.{cond_both}
 use Rattle.command_words.specs.declared.words.forms.Form.{Form}
-use Rattle.command_words.specs.declared.words.forms.Form.TheVariants.{Try, Init, Run, Generate}
+use Rattle.command_words.specs.declared.words.forms.Form.TheVariants.{Try, Init, Run, Generate, Dump, Restore, Check}
 use Rattle.command_words.specs.declared.words.settings.RunOption.TheVariants.{Workers}
 use Rattle.command_words.specs.Forms.{Word, IsForm, is_script_number, may_say, workers_said, workers_words}
 use Rattle.command_words.specs.Inner.Reading.{by_script_number, by_workers, number_within, read_generate, read_workers, script_number}
@@ -37,8 +37,11 @@ record GenerateTail (words : List Word) (form : Form) : Type 0 where
 generate_tail : (words : List Word) (form : Form) → IsForm (codes "generate" ∷ words) form → GenerateTail words form
 generate_tail words Try is = absurd (unlike (codes "generate") (codes "try") refl (verb_is (codes "generate") words Try is))
 generate_tail words (Init device) is = absurd (unlike (codes "generate") (codes "init") refl (verb_is (codes "generate") words (Init device) is))
-generate_tail words (Run device workers pages history printing scripts) is =
-    absurd (unlike (codes "generate") (codes "run") refl (verb_is (codes "generate") words (Run device workers pages history printing scripts) is))
+generate_tail words (Run device workers pages history printing dump scripts) is =
+    absurd (unlike (codes "generate") (codes "run") refl (verb_is (codes "generate") words (Run device workers pages history printing dump scripts) is))
+generate_tail words (Dump device pages history) is = absurd (unlike (codes "generate") (codes "dump") refl (verb_is (codes "generate") words (Dump device pages history) is))
+generate_tail words (Restore device pages) is = absurd (unlike (codes "generate") (codes "restore") refl (verb_is (codes "generate") words (Restore device pages) is))
+generate_tail words (Check device) is = absurd (unlike (codes "generate") (codes "check") refl (verb_is (codes "generate") words (Check device) is))
 generate_tail words (Generate number workers) is = record {
   digits = is.digits;
   given = is.given;

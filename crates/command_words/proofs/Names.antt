@@ -9,8 +9,8 @@ use Rattle.std.proofs.lemmas.Slice.Eq.{bytes_eq-Decides}
 use Rattle.std.proofs.lemmas.List.{append_cancel_right}
 use Rattle.std.proofs.lemmas.List.Concat.{flat_map-append}
 use Rattle.std.proofs.lemmas.List.Folds.{list_any-append}
-use Rattle.command_words.specs.Forms.{Word, is_dashed, script_names, run_names, are_different}
-use Rattle.command_words.specs.Inner.Reading.{is_reply_of, meets, is_taken, can_stand}
+use Rattle.command_words.specs.Forms.{Word, is_dashed, script_names, are_different}
+use Rattle.command_words.specs.Inner.Reading.{has_name, is_reply_of, meets, is_taken, can_stand}
 
 pub same_bytes : (xs ys : Word) → bytes_eq xs ys ≡ true → xs ≡ ys
 same_bytes xs ys e = (bytes_eq-Decides xs ys).0 e
@@ -126,11 +126,23 @@ scripts_apart (t ∷ before) w =
     ∙ ap₂ (λ a b. a && b) (script_apart t w) (scripts_apart before w)
     ∙ not_or (meets w t) (list_any (meets w) before)
 
-taken_is : (device : Word) (before : List Word) (w : Word) → apart (run_names device before) (script_names w) ≡ not (is_taken device before w)
+-- names that stand before those of scripts
+names_apart : (names : List Word) (w : Word) → apart names (script_names w) ≡ not (list_any (has_name w) names)
 unfolding apart
-taken_is device before w =
-    ap₂ (λ a b. a && b) (device_apart device w) (scripts_apart before w)
-    ∙ not_or (bytes_eq device w || is_reply_of device w) (list_any (meets w) before)
+names_apart [] w = refl
+names_apart (d ∷ names) w =
+    ap₂ (λ a b. a && b) (device_apart d w) (names_apart names w) ∙ not_or (has_name w d) (list_any (has_name w) names)
+
+-- all names of a run, where these stand before those of its scripts
+abbrev pub all_names : List Word → List Word → List Word
+all_names names scripts = names ++ flat_map script_names scripts
+
+taken_is : (device : Word) (backup before : List Word) (w : Word)
+    → apart (all_names (device ∷ backup) before) (script_names w) ≡ not (is_taken device backup before w)
+taken_is device backup before w =
+    apart_append (device ∷ backup) (flat_map script_names before) (script_names w)
+    ∙ ap₂ (λ a b. a && b) (names_apart (device ∷ backup) w) (scripts_apart before w)
+    ∙ not_or (list_any (has_name w) (device ∷ backup)) (list_any (meets w) before)
 
 not_its_reply : (w : Word) → bytes_eq w (w ++ codes ".out") ≡ false
 not_its_reply w = false_from_ne_true (bytes_eq w (w ++ codes ".out")) (λ e.
@@ -143,72 +155,123 @@ own_names w = by (bytes_eq w (codes "-")) where
   by true = refl
   by false = ap (λ b. not (b || false) && true) (not_its_reply w)
 
-names_append : (device : Word) (xs ys : List Word) → run_names device (xs ++ ys) ≡ run_names device xs ++ flat_map script_names ys
-names_append device xs ys = ap (λ (l : List Word). device ∷ l) (flat_map-append script_names xs ys)
+names_append : (names : List Word) (xs ys : List Word) → all_names names (xs ++ ys) ≡ all_names names xs ++ flat_map script_names ys
+names_append names xs ys =
+    ap (λ (l : List Word). names ++ l) (flat_map-append script_names xs ys)
+    ∙ sym (append_assoc names (flat_map script_names xs) (flat_map script_names ys))
 
-more_different : (device : Word) (before : List Word) (w : Word)
-    → are_different (run_names device (before ++ w ∷ [])) ≡ (are_different (run_names device before) && not (is_taken device before w))
-more_different device before w =
-    ap are_different (names_append device before (w ∷ []) ∙ ap (λ (l : List Word). run_names device before ++ l) (append-nil (script_names w)))
-    ∙ different_append (run_names device before) (script_names w)
-    ∙ ap₂ (λ a b. (are_different (run_names device before) && a) && b) (own_names w) (taken_is device before w)
-    ∙ ap (λ a. a && not (is_taken device before w)) (and_true (are_different (run_names device before)))
+more_different : (device : Word) (backup before : List Word) (w : Word)
+    → are_different (all_names (device ∷ backup) (before ++ w ∷ [])) ≡ (are_different (all_names (device ∷ backup) before) && not (is_taken device backup before w))
+more_different device backup before w =
+    let names : List Word = device ∷ backup in
+    ap are_different (names_append names before (w ∷ []) ∙ ap (λ (l : List Word). all_names names before ++ l) (append-nil (script_names w)))
+    ∙ different_append (all_names names before) (script_names w)
+    ∙ ap₂ (λ a b. (are_different (all_names names before) && a) && b) (own_names w) (taken_is device backup before w)
+    ∙ ap (λ a. a && not (is_taken device backup before w)) (and_true (are_different (all_names names before)))
 
--- words that can be the scripts of a run, the first ones of them at least
-pub record Good (device : Word) (scripts : List Word) : Type 0 where
-  pub most : length scripts ≤ 16
+-- words that can be the scripts of a run, the first ones of them at least, where the device and a backup have these names
+pub record Good (names : List Word) (scripts : List Word) : Type 0 where
+  pub most : length scripts + length names ≤ 17
   pub named : list_any is_dashed scripts ≡ false
-  pub different : are_different (run_names device scripts) ≡ true
+  pub different : are_different (all_names names scripts) ≡ true
 
-pub no_scripts : (device : Word) → Good device []
+pub no_scripts : (device : Word) → Good (device ∷ []) []
 no_scripts device = record { most = lit≤ tt; named = refl; different = refl }
 
-pub good_next : (device : Word) (before : List Word) (w : Word) → Good device before → can_stand device before w ≡ true → Good device (before ++ w ∷ [])
-good_next device before w good can =
-    let (early, free) = and_parts (nat_lt (length before) 16 && not (is_dashed w)) (not (is_taken device before w)) can in
-    let (room, plain) = and_parts (nat_lt (length before) 16) (not (is_dashed w)) early in
-    let below : length before < 16 = ltb-true (length before) 16 room in
+pub good_next : (device : Word) (backup before : List Word) (w : Word) → Good (device ∷ backup) before → can_stand device backup before w ≡ true
+    → Good (device ∷ backup) (before ++ w ∷ [])
+good_next device backup before w good can =
+    let (early, free) = and_parts (nat_lt (length before + length backup) 16 && not (is_dashed w)) (not (is_taken device backup before w)) can in
+    let (room, plain) = and_parts (nat_lt (length before + length backup) 16) (not (is_dashed w)) early in
+    let below : length before + length backup < 16 = ltb-true (length before + length backup) 16 room in
     let longer : length (before ++ w ∷ []) ≡ length before + 1 = length-append before (w ∷ []) in
     record {
       most = omega arith;
       named = list_any-append is_dashed before (w ∷ []) ∙ or_from (list_any is_dashed before) (is_dashed w || false) good.named (or_from (is_dashed w) false (not-true (is_dashed w) plain) refl);
-      different = more_different device before w ∙ and_from (are_different (run_names device before)) (not (is_taken device before w)) good.different free;
+      different = more_different device backup before w
+          ∙ and_from (are_different (all_names (device ∷ backup) before)) (not (is_taken device backup before w)) good.different free;
     }
 
-good_front : (device : Word) (xs ys : List Word) → Good device (xs ++ ys) → Good device xs
-good_front device xs ys good =
+pub good_front : (names : List Word) (xs ys : List Word) → Good names (xs ++ ys) → Good names xs
+good_front names xs ys good =
     let lengths : length (xs ++ ys) ≡ length xs + length ys = length-append xs ys in
-    let most : length (xs ++ ys) ≤ 16 = good.most in
+    let most : length (xs ++ ys) + length names ≤ 17 = good.most in
     record {
       most = omega arith;
       named = (or_parts (list_any is_dashed xs) (list_any is_dashed ys) (sym (list_any-append is_dashed xs ys) ∙ good.named)).0;
       different =
-          (and_parts (are_different (run_names device xs)) (are_different (flat_map script_names ys))
-          (and_parts (are_different (run_names device xs) && are_different (flat_map script_names ys)) (apart (run_names device xs) (flat_map script_names ys))
-          (sym (different_append (run_names device xs) (flat_map script_names ys)) ∙ sym (ap are_different (names_append device xs ys)) ∙ good.different)).0).0;
+          (and_parts (are_different (all_names names xs)) (are_different (flat_map script_names ys))
+          (and_parts (are_different (all_names names xs) && are_different (flat_map script_names ys)) (apart (all_names names xs) (flat_map script_names ys))
+          (sym (different_append (all_names names xs) (flat_map script_names ys)) ∙ sym (ap are_different (names_append names xs ys)) ∙ good.different)).0).0;
     }
 
-pub good_stands : (device : Word) (before : List Word) (w : Word) (more : List Word) → Good device (before ++ w ∷ more) → can_stand device before w ≡ true
-good_stands device before w more whole =
-    let good : Good device (before ++ w ∷ []) = good_front device (before ++ w ∷ []) more (subst (Good device) (sym (append_assoc before (w ∷ []) more)) whole) in
-    let most : length (before ++ w ∷ []) ≤ 16 = good.most in
+pub good_stands : (device : Word) (backup before : List Word) (w : Word) (more : List Word) → Good (device ∷ backup) (before ++ w ∷ more)
+    → can_stand device backup before w ≡ true
+good_stands device backup before w more whole =
+    let names : List Word = device ∷ backup in
+    let good : Good names (before ++ w ∷ []) = good_front names (before ++ w ∷ []) more (subst (Good names) (sym (append_assoc before (w ∷ []) more)) whole) in
+    let most : length (before ++ w ∷ []) + length (device ∷ backup) ≤ 17 = good.most in
     let longer : length (before ++ w ∷ []) ≡ length before + 1 = length-append before (w ∷ []) in
-    let below : length before < 16 = omega arith in
+    let below : length before + length backup < 16 = omega arith in
     let plain : (is_dashed w || false) ≡ false = (or_parts (list_any is_dashed before) (is_dashed w || false) (sym (list_any-append is_dashed before (w ∷ [])) ∙ good.named)).1 in
-    and_from (nat_lt (length before) 16 && not (is_dashed w)) (not (is_taken device before w))
-    (and_from (nat_lt (length before) 16) (not (is_dashed w)) (lt-ltb (length before) 16 below) (not_from_false (is_dashed w) (or_parts (is_dashed w) false plain).0))
-    (and_parts (are_different (run_names device before)) (not (is_taken device before w)) (sym (more_different device before w) ∙ good.different)).1
+    and_from (nat_lt (length before + length backup) 16 && not (is_dashed w)) (not (is_taken device backup before w))
+    (and_from (nat_lt (length before + length backup) 16) (not (is_dashed w)) (lt-ltb (length before + length backup) 16 below) (not_from_false (is_dashed w) (or_parts (is_dashed w) false plain).0))
+    (and_parts (are_different (all_names names before)) (not (is_taken device backup before w)) (sym (more_different device backup before w) ∙ good.different)).1
 
--- a script whose names the device doesn't have
-pub fresh : Word → Word
-fresh device = cond (bytes_eq device (codes "-")) (codes "a") (codes "-")
+-- ---- a script that has none of these names: its own is longer than all of them
 
-pub good_fresh : (device : Word) → Good device (fresh device ∷ [])
+joined : List Word → Word
+joined [] = []
+joined (name ∷ names) = name ++ joined names
+
+pub fresh : List Word → Word
+fresh names = codes "x" ++ joined names
+
+longer_differs : (xs ys : Word) → length xs < length ys → bytes_eq xs ys ≡ false
+longer_differs xs ys less = false_from_ne_true (bytes_eq xs ys) (λ e.
+    let same : length xs ≡ length ys = ap length (same_bytes xs ys e) in
+    let no : ⊥ = omega arith in no)
+
+and_false : (x : Bool) → (x && false) ≡ false
+and_false true = refl
+and_false false = refl
+
+longer_unnamed : (w : Word) (names : List Word) → length (joined names) < length w → list_any (has_name w) names ≡ false
+unfolding joined
+longer_unnamed w [] less = refl
+longer_unnamed w (name ∷ names) less =
+    let lengths : length (name ++ joined names) ≡ length name + length (joined names) = length-append name (joined names) in
+    let ending : length (w ++ codes ".out") ≡ length w + 4 = length-append w (codes ".out") in
+    let here : length name < length w = omega arith in
+    let reply : length name < length (w ++ codes ".out") = omega arith in
+    let rest : length (joined names) < length w = omega arith in
+    or_from (has_name w name) (list_any (has_name w) names)
+    (or_from (bytes_eq name w) (is_reply_of name w) (longer_differs name w here)
+    (ap (λ b. not (bytes_eq w (codes "-")) && b) (longer_differs name (w ++ codes ".out") reply) ∙ and_false (not (bytes_eq w (codes "-")))))
+    (longer_unnamed w names rest)
+
+fresh_unnamed : (names : List Word) → list_any (has_name (fresh names)) names ≡ false
 unfolding fresh
-good_fresh device =
-    cond_both (bytes_eq device (codes "-")) (codes "a") (codes "-") (λ (name : Word). Good device (name ∷ []))
-    (λ e. subst (λ (d : Word). Good d (codes "a" ∷ [])) (sym (same_bytes device (codes "-") e)) (record { most = lit≤ tt; named = refl; different = refl }))
-    (λ e. record { most = lit≤ tt; named = refl; different = ap (λ b. not (b || false) && true) e })
+fresh_unnamed names =
+    let more : length (joined names) < length (codes "x" ++ joined names) = omega arith in
+    longer_unnamed (codes "x" ++ joined names) names more
+
+pub fresh_differs : (device : Word) → bytes_eq device (fresh (device ∷ [])) ≡ false
+fresh_differs device = (or_parts (bytes_eq device (fresh (device ∷ []))) (is_reply_of device (fresh (device ∷ [])))
+    (or_parts (has_name (fresh (device ∷ [])) device) false (fresh_unnamed (device ∷ []))).0).0
+
+fresh_plain : (names : List Word) → is_dashed (fresh names) ≡ false
+unfolding fresh
+fresh_plain names = refl
+
+pub good_fresh : (device : Word) (backup : List Word) → Good (device ∷ backup) [] → length backup ≤ 1 → Good (device ∷ backup) (fresh (device ∷ backup) ∷ [])
+good_fresh device backup good few =
+    let names : List Word = device ∷ backup in
+    let below : 0 + length backup < 16 = omega arith in
+    good_next device backup [] (fresh names) good
+    (and_from (nat_lt (0 + length backup) 16 && not (is_dashed (fresh names))) (not (is_taken device backup [] (fresh names)))
+    (and_from (nat_lt (0 + length backup) 16) (not (is_dashed (fresh names))) (lt-ltb (0 + length backup) 16 below) (not_from_false (is_dashed (fresh names)) (fresh_plain names)))
+    (not_from_false (is_taken device backup [] (fresh names)) (or_from (list_any (has_name (fresh names)) names) false (fresh_unnamed names) refl)))
 
 -- a name that ends as replies do
 pub reply_is : (name script front : Word) → name ≡ front ++ codes ".out" → true ≡ not (bytes_eq script (codes "-")) → (b : Bool) → b ≡ bytes_eq front script → b ≡ is_reply_of name script

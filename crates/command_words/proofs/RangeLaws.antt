@@ -6,7 +6,7 @@ use Rattle.std.proofs.lemmas.Bool.{and_parts, leb-true, cond_both}
 use Rattle.command_words.specs.declared.words.settings.RunOption.{RunOption}
 use Rattle.command_words.specs.declared.words.settings.RunOption.TheVariants.{Pages, History, Workers}
 use Rattle.command_words.specs.Forms.{Word, Setting, is_number, is_number_within, may_say, is_right, is_option, option_word, number_in, workers_said}
-use Rattle.command_words.specs.Laws.{IsWithin, RunsKeepTheirRanges, GeneratesKeepTheirRanges, FormsKeepTheirRanges}
+use Rattle.command_words.specs.Laws.{IsWithin, DumpsKeepTheirRanges, RestoresKeepTheirRanges, RunsKeepTheirRanges, GeneratesKeepTheirRanges, FormsKeepTheirRanges}
 use Rattle.command_words.proofs.Names.{same_bytes}
 use Rattle.command_words.proofs.Options.{option_word-same}
 
@@ -28,7 +28,7 @@ number_in_range option least most other (setting ∷ settings) says within all =
     (λ not_is. number_in_range option least most other settings says within rest)
 
 run_ranges : RunsKeepTheirRanges
-run_ranges words workers pages history printing first run = (
+run_ranges words workers pages history printing dump first run = (
   subst (IsWithin 1 64) (sym run.workers_given) (number_in_range Workers 1 64 4 run.settings (word_within 1 64) (lit≤ tt, lit≤ tt) run.right),
   subst (IsWithin 16 1048576) (sym run.pages_given) (number_in_range Pages 16 1048576 65536 run.settings (word_within 16 1048576) (lit≤ tt, lit≤ tt) run.right),
   subst (IsWithin 16 1048576) (sym run.history_given) (number_in_range History 16 1048576 1048576 run.settings (word_within 16 1048576) (lit≤ tt, lit≤ tt) run.right),
@@ -45,5 +45,15 @@ generate_ranges words number workers generate =
     let is : number ≡ digits_value 10 generate.digits = generate.number_given in
     (omega arith, subst (IsWithin 1 64) (sym generate.workers_given) (said_workers generate.given generate.in_range))
 
+dump_ranges : DumpsKeepTheirRanges
+dump_ranges words pages history dump = (
+  subst (IsWithin 16 1048576) (sym dump.pages_given) (number_in_range Pages 16 1048576 65536 dump.has.settings (word_within 16 1048576) (lit≤ tt, lit≤ tt) dump.has.right),
+  subst (IsWithin 16 1048576) (sym dump.history_given) (number_in_range History 16 1048576 1048576 dump.has.settings (word_within 16 1048576) (lit≤ tt, lit≤ tt) dump.has.right),
+)
+
+restore_ranges : RestoresKeepTheirRanges
+restore_ranges words pages restore =
+    subst (IsWithin 16 1048576) (sym restore.pages_given) (number_in_range Pages 16 1048576 65536 restore.has.settings (word_within 16 1048576) (lit≤ tt, lit≤ tt) restore.has.right)
+
 pub keep_ranges : FormsKeepTheirRanges
-keep_ranges = (run_ranges, generate_ranges)
+keep_ranges = (run_ranges, generate_ranges, dump_ranges, restore_ranges)

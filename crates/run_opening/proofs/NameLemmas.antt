@@ -64,22 +64,42 @@ both_differ (s ∷ scripts) is =
           (not_from_false (list_any (bytes_eq (reply_name s)) (map reply_name scripts)) replies.1) rest.1,
     )
 
-module _ (device : Word) (scripts : List Word) (is : are_different (run_names device scripts) ≡ true) where
-  device_and_rest : (list_any (bytes_eq device) (flat_map script_names scripts) ≡ false) × (are_different (flat_map script_names scripts) ≡ true)
+-- names that stand before those of scripts
+later_names : (names rest : List Word) → are_different (names ++ rest) ≡ true → are_different rest ≡ true
+later_names [] rest is = is
+later_names (n ∷ names) rest is = later_names names rest (and_parts (not (list_any (bytes_eq n) (names ++ rest))) (are_different (names ++ rest)) is).1
+
+module _ (device : Word) (backups scripts : List Word) (is : are_different (run_names device backups scripts) ≡ true) where
+  device_and_rest : (list_any (bytes_eq device) (backups ++ flat_map script_names scripts) ≡ false) × (are_different (backups ++ flat_map script_names scripts) ≡ true)
   device_and_rest =
-      let h = and_parts (not (list_any (bytes_eq device) (flat_map script_names scripts))) (are_different (flat_map script_names scripts)) is in
-      (not-true (list_any (bytes_eq device) (flat_map script_names scripts)) h.0, h.1)
+      let rest : List Word = backups ++ flat_map script_names scripts in
+      let h = and_parts (not (list_any (bytes_eq device) rest)) (are_different rest) is in
+      (not-true (list_any (bytes_eq device) rest) h.0, h.1)
 
   -- the streams of a run have names of their own
   pub own_names : HaveOwnNames scripts
   own_names =
-      let both = both_differ scripts device_and_rest.1 in
+      let both = both_differ scripts (later_names backups (flat_map script_names scripts) device_and_rest.1) in
       record { apart = pairs scripts both.0; replies_apart = pairs (map reply_name scripts) both.1 }
+
+  -- a name that is none of theirs
+  apart_name : (name : Word) → list_any (bytes_eq name) (flat_map script_names scripts) ≡ false → All (λ m. name ≢ m) (stream_names scripts)
+  apart_name name unlike_all =
+      let none = none_in (bytes_eq name) scripts unlike_all in
+      apart_from name (stream_names scripts)
+      (list_any-append (bytes_eq name) scripts (map reply_name scripts)
+      ∙ or_from (list_any (bytes_eq name) scripts) (list_any (bytes_eq name) (map reply_name scripts)) none.0 none.1)
 
   -- none of them is the device's
   pub device_apart : All (λ m. device ≢ m) (stream_names scripts)
   device_apart =
-      let none = none_in (bytes_eq device) scripts device_and_rest.0 in
-      apart_from device (stream_names scripts)
-      (list_any-append (bytes_eq device) scripts (map reply_name scripts)
-      ∙ or_from (list_any (bytes_eq device) scripts) (list_any (bytes_eq device) (map reply_name scripts)) none.0 none.1)
+      apart_name device (or_parts (list_any (bytes_eq device) backups) (list_any (bytes_eq device) (flat_map script_names scripts))
+      (sym (list_any-append (bytes_eq device) backups (flat_map script_names scripts)) ∙ device_and_rest.0)).1
+
+-- nor that of a backup
+module _ (device name : Word) (scripts : List Word) (is : are_different (run_names device (name ∷ []) scripts) ≡ true) where
+  pub backup_apart : All (λ m. name ≢ m) (stream_names scripts)
+  backup_apart =
+      let rest : List Word = flat_map script_names scripts in
+      let h = and_parts (not (list_any (bytes_eq name) rest)) (are_different rest) (device_and_rest device (name ∷ []) scripts is).1 in
+      apart_name device (name ∷ []) scripts is name (not-true (list_any (bytes_eq name) rest) h.0)

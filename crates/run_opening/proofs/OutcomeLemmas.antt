@@ -1,5 +1,5 @@
 -- What a notice tells of the sessions that it is told of.
-use Rattle.std.proofs.Common.{◌≡◌, ◌⊎◌, ℕ, zero, suc, ◌+◌, ◌<◌, ◌≤◌, Bool, true, false, ◌||◌, IsTrue, List, [], ◌∷◌, length, get_or, drop, position, Option, None, Some, All, Any, inl, inr, refl, sym, ◌∙◌, ap, subst, arith}
+use Rattle.std.proofs.Common.{◌≡◌, ◌⊎◌, ℕ, zero, suc, ◌+◌, ◌<◌, ◌≤◌, Bool, true, false, ◌||◌, IsTrue, List, [], ◌∷◌, length, get_or, drop, position, Option, None, Some, All, Any, IfSome, inl, inr, refl, sym, ◌∙◌, ap, subst, arith}
 use Rattle.std.specs.List.{list_any, position_or_len}
 use Rattle.std.specs.Option.{option_or}
 use Rattle.std.proofs.lemmas.Grind.{common_steps}
@@ -13,9 +13,11 @@ use Rattle.run_opening.specs.declared.reports.reports.Mark.{Mark}
 use Rattle.run_opening.specs.declared.reports.reports.SessionEnd.{SessionEnd}
 use Rattle.run_opening.specs.declared.reports.reports.SessionEnd.TheVariants as ends
 use Rattle.run_opening.specs.declared.reports.reports.SessionReport.{SessionReport}
+use Rattle.run_opening.specs.declared.reports.reports.BackupEnd.{BackupEnd}
+use Rattle.run_opening.specs.declared.reports.reports.BackupEnd.TheVariants as backups
 use Rattle.run_opening.specs.declared.reports.notices.Notice.{Notice}
-use Rattle.run_opening.specs.declared.reports.notices.Notice.TheVariants.{Done, Refused, Usage, Disk, Stream, Memory, NotDatabase, NotEmpty, Damaged}
-use Rattle.run_opening.specs.Outcomes.{IsFirst, breaks_off, damage_in, damaged_page, first_by, first_damage, has_fault, has_refusal, is_fault, is_refusal, is_stream_end, is_want, is_want_end, lacks_memory, notice_by, notice_of}
+use Rattle.run_opening.specs.declared.reports.notices.Notice.TheVariants.{Done, Refused, Usage, Disk, Stream, Memory, NotDatabase, NotEmpty, Damaged, NotBackup, WrongOverlap, Full}
+use Rattle.run_opening.specs.Outcomes.{IsFirst, any_broken, any_damage, any_fault, any_refusal, any_want, breaks_off, broken_backup, damage_of_backup, is_fault_backup, is_refused_backup, is_want_backup, damage_in, damaged_page, first_by, first_damage, has_fault, has_refusal, is_fault, is_refusal, is_stream_end, is_want, is_want_end, lacks_memory, notice_by, notice_of}
 
 -- ---- which of the five told the notice
 
@@ -35,6 +37,9 @@ IsTold Done wants faults page session refused = IsQuiet wants faults page sessio
 IsTold (Usage word) wants faults page session refused = ⊥
 IsTold (NotDatabase n) wants faults page session refused = ⊥
 IsTold (NotEmpty n) wants faults page session refused = ⊥
+IsTold (NotBackup at) wants faults page session refused = ⊥
+IsTold (WrongOverlap n) wants faults page session refused = ⊥
+IsTold (Full needed free) wants faults page session refused = ⊥
 
 quiet : IsQuiet false false None None
 quiet = record { no_want = refl; no_fault = refl; no_page = refl; no_session = refl }
@@ -181,6 +186,56 @@ of_page (Some (refusals.Cell at kind)) page is = absurd (cc (is))
 of_page (Some refusals.SequenceEnd) page is = absurd (cc (is))
 of_page (Some (refusals.Full needed free)) page is = absurd (cc (is))
 
+whole_backup : (backup : Option BackupEnd) (count : ℕ) → is_want_backup backup ≡ false → is_fault_backup backup ≡ false → damage_of_backup backup ≡ None
+    → broken_backup count backup ≡ None → is_refused_backup backup ≡ false → IfSome backup (λ end. end ≡ backups.Whole)
+whole_backup None count want fault page broken refused = tt
+whole_backup (Some backups.Whole) count want fault page broken refused = refl
+whole_backup (Some backups.Sink) count want fault page broken refused = absurd (cc (broken))
+whole_backup (Some backups.Disk) count want fault page broken refused = absurd (cc (fault))
+whole_backup (Some (backups.Damaged n)) count want fault page broken refused = absurd (cc (page))
+whole_backup (Some backups.HistoryFull) count want fault page broken refused = absurd (cc (refused))
+whole_backup (Some backups.Memory) count want fault page broken refused = absurd (cc (want))
+
+fault_of_backup : (backup : Option BackupEnd) → is_fault_backup backup ≡ true → backup ≡ Some backups.Disk
+fault_of_backup None is = absurd (cc (is))
+fault_of_backup (Some backups.Whole) is = absurd (cc (is))
+fault_of_backup (Some backups.Sink) is = absurd (cc (is))
+fault_of_backup (Some backups.Disk) is = refl
+fault_of_backup (Some (backups.Damaged n)) is = absurd (cc (is))
+fault_of_backup (Some backups.HistoryFull) is = absurd (cc (is))
+fault_of_backup (Some backups.Memory) is = absurd (cc (is))
+
+page_of_backup : (backup : Option BackupEnd) (page : ℕ) → damage_of_backup backup ≡ Some page → backup ≡ Some (backups.Damaged page)
+page_of_backup None page is = absurd (cc (is))
+page_of_backup (Some backups.Whole) page is = absurd (cc (is))
+page_of_backup (Some backups.Sink) page is = absurd (cc (is))
+page_of_backup (Some backups.Disk) page is = absurd (cc (is))
+page_of_backup (Some (backups.Damaged n)) page is = cc (is)
+page_of_backup (Some backups.HistoryFull) page is = absurd (cc (is))
+page_of_backup (Some backups.Memory) page is = absurd (cc (is))
+
+sink_of_backup : (backup : Option BackupEnd) (count session : ℕ) → broken_backup count backup ≡ Some session → (session ≡ count) × (backup ≡ Some backups.Sink)
+sink_of_backup None count session is = absurd (cc (is))
+sink_of_backup (Some backups.Whole) count session is = absurd (cc (is))
+sink_of_backup (Some backups.Sink) count session is = (cc (is), refl)
+sink_of_backup (Some backups.Disk) count session is = absurd (cc (is))
+sink_of_backup (Some (backups.Damaged n)) count session is = absurd (cc (is))
+sink_of_backup (Some backups.HistoryFull) count session is = absurd (cc (is))
+sink_of_backup (Some backups.Memory) count session is = absurd (cc (is))
+
+full_of_backup : (backup : Option BackupEnd) → is_refused_backup backup ≡ true → backup ≡ Some backups.HistoryFull
+full_of_backup None is = absurd (cc (is))
+full_of_backup (Some backups.Whole) is = absurd (cc (is))
+full_of_backup (Some backups.Sink) is = absurd (cc (is))
+full_of_backup (Some backups.Disk) is = absurd (cc (is))
+full_of_backup (Some (backups.Damaged n)) is = absurd (cc (is))
+full_of_backup (Some backups.HistoryFull) is = refl
+full_of_backup (Some backups.Memory) is = absurd (cc (is))
+
+either_true : (a b : Bool) → (a || b) ≡ true → (a ≡ true) ⊎ (b ≡ true)
+either_true true b is = inl refl
+either_true false b is = inr is
+
 -- ---- of all sessions
 
 module _ {S K : Type 0} where
@@ -203,60 +258,84 @@ module _ {S K : Type 0} where
       (unbroken_at reports k d within session)
 
   -- what the parts tell is told of all
-  pub chosen : (reports : List (SessionReport S K)) (wants faults : Bool) (page session : Option ℕ) (refused : Bool) → wants ≡ list_any lacks_memory reports
-      → faults ≡ list_any has_fault reports → page ≡ first_damage reports → session ≡ position breaks_off reports → refused ≡ list_any has_refusal reports
-      → notice_by wants faults page session refused ≡ notice_of reports
-  chosen reports wants faults page session refused of_wants of_faults of_page of_session of_refused =
-      ap (λ (b : Bool). notice_by b faults page session refused) of_wants ∙ ap (λ (b : Bool). notice_by (list_any lacks_memory reports) b page session refused) of_faults
-      ∙ ap (λ (o : Option ℕ). notice_by (list_any lacks_memory reports) (list_any has_fault reports) o session refused) of_page
-      ∙ ap (λ (o : Option ℕ). notice_by (list_any lacks_memory reports) (list_any has_fault reports) (first_damage reports) o refused) of_session
-      ∙ ap (λ (b : Bool). notice_by (list_any lacks_memory reports) (list_any has_fault reports) (first_damage reports) (position breaks_off reports) b) of_refused
+  pub chosen : (reports : List (SessionReport S K)) (backup : Option BackupEnd) (wants faults : Bool) (page session : Option ℕ) (refused : Bool) → wants ≡ any_want reports backup
+      → faults ≡ any_fault reports backup → page ≡ any_damage reports backup → session ≡ any_broken reports backup → refused ≡ any_refusal reports backup
+      → notice_by wants faults page session refused ≡ notice_of reports backup
+  chosen reports backup wants faults page session refused of_wants of_faults of_page of_session of_refused =
+      λ i. notice_by (of_wants i) (of_faults i) (of_page i) (of_session i) (of_refused i)
 
-  module _ (reports : List (SessionReport S K)) (notice : Notice) (is_notice : notice ≡ notice_of reports) where
-    told : IsTold notice (list_any lacks_memory reports) (list_any has_fault reports) (first_damage reports) (position breaks_off reports) (list_any has_refusal reports)
-    told = subst (λ (n : Notice). IsTold n (list_any lacks_memory reports) (list_any has_fault reports) (first_damage reports) (position breaks_off reports) (list_any has_refusal reports))
-        (sym is_notice) (is_told (list_any lacks_memory reports) (list_any has_fault reports) (first_damage reports) (position breaks_off reports) (list_any has_refusal reports))
-
+  module _ (reports : List (SessionReport S K)) (backup : Option BackupEnd) (notice : Notice) (is_notice : notice ≡ notice_of reports backup) where
     told_as : (other : Notice) → notice ≡ other
-        → IsTold other (list_any lacks_memory reports) (list_any has_fault reports) (first_damage reports) (position breaks_off reports) (list_any has_refusal reports)
-    told_as other is = subst (λ (n : Notice). IsTold n (list_any lacks_memory reports) (list_any has_fault reports) (first_damage reports) (position breaks_off reports) (list_any has_refusal reports)) is told
+        → IsTold other (any_want reports backup) (any_fault reports backup) (any_damage reports backup) (any_broken reports backup) (any_refusal reports backup)
+    told_as other is =
+        subst (λ (n : Notice). IsTold n (any_want reports backup) (any_fault reports backup) (any_damage reports backup) (any_broken reports backup) (any_refusal reports backup))
+        (sym is_notice ∙ is) (is_told (any_want reports backup) (any_fault reports backup) (any_damage reports backup) (any_broken reports backup) (any_refusal reports backup))
 
-    pub is_done : notice ≡ Done → All (λ r. (r.end ≡ ends.Whole) × All (λ m. m.refusal ≡ None) r.marks) reports
-    is_done is k d within =
+    -- no session and no backup lacks memory or breaks off, as far as these tell
+    quiet_wants : any_want reports backup ≡ false → (list_any lacks_memory reports ≡ false) × (is_want_backup backup ≡ false)
+    quiet_wants is = either_false (list_any lacks_memory reports) (is_want_backup backup) is
+
+    quiet_streams : any_broken reports backup ≡ None → (position breaks_off reports ≡ None) × (broken_backup (length reports) backup ≡ None)
+    quiet_streams is = either_none (position breaks_off reports) (broken_backup (length reports) backup) is
+
+    pub is_done : notice ≡ Done → All (λ r. (r.end ≡ ends.Whole) × All (λ m. m.refusal ≡ None) r.marks) reports × IfSome backup (λ end. end ≡ backups.Whole)
+    is_done is =
         let h = told_as Done is in
-        let r = get_or reports k d in (
-          whole_at reports k d within h.0.no_want h.0.no_session,
-          all_accepted r.marks
-              (either_false (is_want_end r.end) (list_any (λ m. is_want m.refusal) r.marks) (fails_at lacks_memory reports k d within h.0.no_want)).1
-              (fails_at has_fault reports k d within h.0.no_fault) (none_at (λ (r : SessionReport S K). damage_in r.marks) reports k d within h.0.no_page) (fails_at has_refusal reports k d within h.1),
+        let wants = quiet_wants h.0.no_want in
+        let streams = quiet_streams h.0.no_session in
+        let faults = either_false (list_any has_fault reports) (is_fault_backup backup) h.0.no_fault in
+        let pages = either_none (first_damage reports) (damage_of_backup backup) h.0.no_page in
+        let refusals = either_false (list_any has_refusal reports) (is_refused_backup backup) h.1 in (
+          λ k d within.
+              let r = get_or reports k d in (
+                whole_at reports k d within wants.0 streams.0,
+                all_accepted r.marks
+                    (either_false (is_want_end r.end) (list_any (λ m. is_want m.refusal) r.marks) (fails_at lacks_memory reports k d within wants.0)).1
+                    (fails_at has_fault reports k d within faults.0) (none_at (λ (r : SessionReport S K). damage_in r.marks) reports k d within pages.0) (fails_at has_refusal reports k d within refusals.0),
+              ),
+          whole_backup backup (length reports) wants.1 faults.1 pages.1 streams.1 refusals.1,
         )
 
-    pub is_refused : notice ≡ Refused → All (λ r. r.end ≡ ends.Whole) reports × Any (λ r. Any (λ m. IsTrue (is_refusal m.refusal)) r.marks) reports
+    pub is_refused : notice ≡ Refused
+        → All (λ r. r.end ≡ ends.Whole) reports × (Any (λ r. Any (λ m. IsTrue (is_refusal m.refusal)) r.marks) reports ⊎ (backup ≡ Some backups.HistoryFull))
     is_refused is =
         let h = told_as Refused is in (
-          λ k d within. whole_at reports k d within h.0.no_want h.0.no_session,
-          some_such (λ (r : SessionReport S K). has_refusal r ≡ true) (λ r. Any (λ m. IsTrue (is_refusal m.refusal)) r.marks) reports
-              (λ r some. Any-from_list_any (λ m. is_refusal m.refusal) r.marks some) (Any-from_list_any has_refusal reports h.1),
+          λ k d within. whole_at reports k d within (quiet_wants h.0.no_want).0 (quiet_streams h.0.no_session).0,
+          elim (either_true (list_any has_refusal reports) (is_refused_backup backup) h.1) [
+            | inl some ↦ inl (some_such (λ (r : SessionReport S K). has_refusal r ≡ true) (λ r. Any (λ m. IsTrue (is_refusal m.refusal)) r.marks) reports
+                (λ r here. Any-from_list_any (λ m. is_refusal m.refusal) r.marks here) (Any-from_list_any has_refusal reports some))
+            | inr full ↦ inr (full_of_backup backup full)
+          ],
         )
 
-    pub is_disk : notice ≡ Disk → Any (λ r. Any (λ m. m.refusal ≡ Some refusals.Disk) r.marks) reports
-    is_disk is =
-        some_such (λ (r : SessionReport S K). has_fault r ≡ true) (λ r. Any (λ m. m.refusal ≡ Some refusals.Disk) r.marks) reports
-        (λ r some. some_such (λ (m : Mark). is_fault m.refusal ≡ true) (λ m. m.refusal ≡ Some refusals.Disk) r.marks (λ m here. of_disk m.refusal here)
-        (Any-from_list_any (λ m. is_fault m.refusal) r.marks some)) (Any-from_list_any has_fault reports (told_as Disk is))
+    pub is_disk : notice ≡ Disk → Any (λ r. Any (λ m. m.refusal ≡ Some refusals.Disk) r.marks) reports ⊎ (backup ≡ Some backups.Disk)
+    is_disk is = elim (either_true (list_any has_fault reports) (is_fault_backup backup) (told_as Disk is)) [
+      | inl fault ↦ inl (some_such (λ (r : SessionReport S K). has_fault r ≡ true) (λ r. Any (λ m. m.refusal ≡ Some refusals.Disk) r.marks) reports
+          (λ r some. some_such (λ (m : Mark). is_fault m.refusal ≡ true) (λ m. m.refusal ≡ Some refusals.Disk) r.marks (λ m here. of_disk m.refusal here)
+          (Any-from_list_any (λ m. is_fault m.refusal) r.marks some)) (Any-from_list_any has_fault reports fault))
+      | inr fault ↦ inr (fault_of_backup backup fault)
+    ]
 
-    pub is_damaged : (page : ℕ) → notice ≡ Damaged page → Any (λ r. Any (λ m. m.refusal ≡ Some (refusals.Damaged page)) r.marks) reports
-    is_damaged page is =
-        some_such (λ (r : SessionReport S K). damage_in r.marks ≡ Some page) (λ r. Any (λ m. m.refusal ≡ Some (refusals.Damaged page)) r.marks) reports
-        (λ r some. some_such (λ (m : Mark). damaged_page m.refusal ≡ Some page) (λ m. m.refusal ≡ Some (refusals.Damaged page)) r.marks (λ m here. of_page m.refusal page here)
-        (some_gives (λ (m : Mark). damaged_page m.refusal) r.marks page some)) (some_gives (λ (r : SessionReport S K). damage_in r.marks) reports page (told_as (Damaged page) is))
+    pub is_damaged : (page : ℕ) → notice ≡ Damaged page
+        → Any (λ r. Any (λ m. m.refusal ≡ Some (refusals.Damaged page)) r.marks) reports ⊎ (backup ≡ Some (backups.Damaged page))
+    is_damaged page is = elim (from_either (first_damage reports) (damage_of_backup backup) page (told_as (Damaged page) is)) [
+      | inl found ↦ inl (some_such (λ (r : SessionReport S K). damage_in r.marks ≡ Some page) (λ r. Any (λ m. m.refusal ≡ Some (refusals.Damaged page)) r.marks) reports
+          (λ r some. some_such (λ (m : Mark). damaged_page m.refusal ≡ Some page) (λ m. m.refusal ≡ Some (refusals.Damaged page)) r.marks (λ m here. of_page m.refusal page here)
+          (some_gives (λ (m : Mark). damaged_page m.refusal) r.marks page some)) (some_gives (λ (r : SessionReport S K). damage_in r.marks) reports page found))
+      | inr found ↦ inr (page_of_backup backup page found)
+    ]
 
-    pub is_stream : (session : ℕ) → notice ≡ Stream session → IsFirst (λ r. (r.end ≡ ends.Source) ⊎ (r.end ≡ ends.Sink)) session reports
-    is_stream session is =
-        let first = told_as (Stream session) is in
-        record {
-          within = stream_within reports session first;
-          here = λ d. broken (get_or reports session d).end (position-Some breaks_off reports session d first).1;
-          none_before = λ k d before ends. let none = (position-Some breaks_off reports session d first).2 k before in
-              let some = breaks (get_or reports k d).end ends in absurd (cc (none, some));
-        }
+    first_session : (session : ℕ) → position breaks_off reports ≡ Some session → IsFirst (λ r. (r.end ≡ ends.Source) ⊎ (r.end ≡ ends.Sink)) session reports
+    first_session session first = record {
+      within = stream_within reports session first;
+      here = λ d. broken (get_or reports session d).end (position-Some breaks_off reports session d first).1;
+      none_before = λ k d before ends. let none = (position-Some breaks_off reports session d first).2 k before in
+          let some = breaks (get_or reports k d).end ends in absurd (cc (none, some));
+    }
+
+    pub is_stream : (session : ℕ) → notice ≡ Stream session
+        → IsFirst (λ r. (r.end ≡ ends.Source) ⊎ (r.end ≡ ends.Sink)) session reports ⊎ ((session ≡ length reports) × (backup ≡ Some backups.Sink))
+    is_stream session is = elim (from_either (position breaks_off reports) (broken_backup (length reports) backup) session (told_as (Stream session) is)) [
+      | inl first ↦ inl (first_session session first)
+      | inr last ↦ inr (sink_of_backup backup (length reports) session last)
+    ]

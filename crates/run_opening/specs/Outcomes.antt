@@ -8,6 +8,8 @@ use Rattle.run_opening.specs.declared.reports.reports.Mark.{Mark}
 use Rattle.run_opening.specs.declared.reports.reports.SessionEnd.{SessionEnd}
 use Rattle.run_opening.specs.declared.reports.reports.SessionEnd.TheVariants as ends
 use Rattle.run_opening.specs.declared.reports.reports.SessionReport.{SessionReport}
+use Rattle.run_opening.specs.declared.reports.reports.BackupEnd.{BackupEnd}
+use Rattle.run_opening.specs.declared.reports.reports.BackupEnd.TheVariants as backups
 use Rattle.run_opening.specs.declared.reports.notices.Notice.{Notice}
 use Rattle.run_opening.specs.declared.reports.notices.Notice.TheVariants.{Done, Refused, Disk, Stream, Memory, Damaged}
 
@@ -77,6 +79,29 @@ module _ {S K : Type 0} where
   abbrev pub first_damage : List (SessionReport S K) → Option ℕ
   first_damage reports = first_by (λ report. damage_in report.marks) reports
 
+-- ---- of a backup, where there is one
+
+abbrev pub is_want_backup : Option BackupEnd → Bool
+is_want_backup (Some backups.Memory) = true
+is_want_backup _ = false
+
+abbrev pub is_fault_backup : Option BackupEnd → Bool
+is_fault_backup (Some backups.Disk) = true
+is_fault_backup _ = false
+
+abbrev pub damage_of_backup : Option BackupEnd → Option ℕ
+damage_of_backup (Some (backups.Damaged page)) = Some page
+damage_of_backup _ = None
+
+-- the number of the backup, behind so many sessions, where its sink failed
+abbrev pub broken_backup : ℕ → Option BackupEnd → Option ℕ
+broken_backup count (Some backups.Sink) = Some count
+broken_backup count _ = None
+
+abbrev pub is_refused_backup : Option BackupEnd → Bool
+is_refused_backup (Some backups.HistoryFull) = true
+is_refused_backup _ = false
+
 -- want of memory comes before a fault of the disk, that before damage, that before a fault of a stream, and that before a refusal
 abbrev pub notice_by : Bool → Bool → Option ℕ → Option ℕ → Bool → Notice
 notice_by true fault page session refused = Memory
@@ -86,10 +111,26 @@ notice_by false false None (Some session) refused = Stream session
 notice_by false false None None true = Refused
 notice_by false false None None false = Done
 
--- WHAT IS TOLD OF SESSIONS
-abbrev pub notice_of : {S K : Type 0} → List (SessionReport S K) → Notice
-notice_of reports =
-    notice_by (list_any lacks_memory reports) (list_any has_fault reports) (first_damage reports) (position breaks_off reports) (list_any has_refusal reports)
+module _ {S K : Type 0} (reports : List (SessionReport S K)) (backup : Option BackupEnd) where
+  abbrev pub any_want : Bool
+  any_want = list_any lacks_memory reports || is_want_backup backup
+
+  abbrev pub any_fault : Bool
+  any_fault = list_any has_fault reports || is_fault_backup backup
+
+  abbrev pub any_damage : Option ℕ
+  any_damage = option_or (first_damage reports) (damage_of_backup backup)
+
+  abbrev pub any_broken : Option ℕ
+  any_broken = option_or (position breaks_off reports) (broken_backup (length reports) backup)
+
+  abbrev pub any_refusal : Bool
+  any_refusal = list_any has_refusal reports || is_refused_backup backup
+
+-- WHAT IS TOLD OF SESSIONS AND A BACKUP
+abbrev pub notice_of : {S K : Type 0} → List (SessionReport S K) → Option BackupEnd → Notice
+notice_of reports backup =
+    notice_by (any_want reports backup) (any_fault reports backup) (any_damage reports backup) (any_broken reports backup) (any_refusal reports backup)
 
 -- P holds at this place, and at none before
 pub record IsFirst {A : Type 0} (P : A → Type 0) (place : ℕ) (xs : List A) : Type 0 where

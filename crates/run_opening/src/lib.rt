@@ -8,7 +8,8 @@ mod stores;
 pub use array_store::Store;
 pub use opening::{open_device, open_reply, open_streams};
 pub use reports::{
-    Mark, Notice, SessionEnd, SessionReport, Streams, notice_after, notice_line, status,
+    BackupEnd, BackupReport, Mark, Notice, SessionEnd, SessionReport, Streams, notice_after,
+    notice_line, status,
 };
 pub use result_print::Refusal;
 pub use store_opening::Limits;

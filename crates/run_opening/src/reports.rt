@@ -6,4 +6,4 @@ mod reports;
 
 pub use after::notice_after;
 pub use notices::{Notice, notice_line, status};
-pub use reports::{Mark, SessionEnd, SessionReport, Streams};
+pub use reports::{BackupEnd, BackupReport, Mark, SessionEnd, SessionReport, Streams};

@@ -14,8 +14,8 @@ use Rattle.session_sources.specs.Pinned.{pinned_state, reading_of, unread, HasRe
 use Rattle.backup_format.specs.Spelling.{signed}
 use Rattle.backup_writing.specs.Writing.{backup_text, Goes, HasCause}
 use Rattle.backup_writing.specs.declared.stop.WriteStop.{WriteStop}
-use Rattle.backup_stream.specs.declared.report.BackupEnd.{BackupEnd}
-use Rattle.backup_stream.specs.declared.report.BackupEnd.TheVariants as ends
+use Rattle.run_opening.specs.declared.reports.reports.BackupEnd.{BackupEnd}
+use Rattle.run_opening.specs.declared.reports.reports.BackupEnd.TheVariants as ends
 
 -- what holds of a seat under its session's pin before the backup is written
 pub record MayWrite {D : Type 0} (moment : D → Moment) (shared : Shared D) (now : Seat D) (pinned : Pinned) : Type 0 where

@@ -12,12 +12,13 @@ pub fn faults_are_unique()
     ensures { FaultsAreUnique }
 {}
 
-/// In words of a form the device stands at place 1, and the scripts are all words from the first one on.
+/// In words of a form the device stands at place 1, the scripts are all words from the first one on, and the name of a backup
+/// stands at its place.
 pub fn forms_keep_their_places()
     ensures { FormsKeepTheirPlaces }
 {}
 
-/// The numbers of a run and of a generated script are in their ranges.
+/// The numbers of a form are in their ranges.
 pub fn forms_keep_their_ranges()
     ensures { FormsKeepTheirRanges }
 {}

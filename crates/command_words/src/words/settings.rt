@@ -1,10 +1,12 @@
-//! The options of `run`, and what may be said of them.
+//! The options of verbs, and what may be said of them.
 ghost use Rattle.std.specs.Prelude.{◌≡◌, ◌≤◌};
 ghost use Rattle.std.specs.Char.{is_ascii_digit};
 ghost use Rattle.std.specs.List.{list_all};
 ghost use Rattle.command_words.specs.Forms.{is_number};
-ghost use Rattle.command_words.specs.Inner.Reading.{next_option, no_settings, number_within, option_of, place_of, script_number};
-ghost use Rattle.command_words.specs.Inner.Reading.{with_history, with_pages, with_said, with_trace, with_workers, words_of};
+ghost use Rattle.command_words.specs.Inner.Reading.{is_free, next_option, no_settings, number_within, option_of, place_of, script_number};
+ghost use Rattle.command_words.specs.Inner.Reading.{with_history, with_name, with_pages, with_said, with_trace, with_workers, words_of};
+
+use crate::words::scripts::is_dashed;
 
 pub(crate) const MAX_WORKERS: u32 = 64;
 
@@ -12,7 +14,30 @@ const LEAST_SIZE: u32 = 16;
 
 const MOST_SIZE: u32 = 1_048_576;
 
-/// An option of `run`.
+/// A verb that options may follow.
+#[derive(Clone, Copy)]
+pub(crate) enum Verb {
+    Run,
+    Dump,
+    Restore,
+}
+
+impl Verb {
+    ghost use Rattle.command_words.specs.Forms.{may_have};
+
+    /// Whether the option may follow it.
+    const fn may_have(self, option: RunOption) -> bool
+        ensures { result ≡ may_have self option }
+    {
+        match self {
+            Verb::Run => true,
+            Verb::Dump => matches!(option, RunOption::Pages | RunOption::History),
+            Verb::Restore => matches!(option, RunOption::Pages),
+        }
+    }
+}
+
+/// An option of `run`; some of them are options of other verbs too.
 #[derive(Clone, Copy)]
 pub(crate) enum RunOption {
     Pages,
@@ -20,6 +45,7 @@ pub(crate) enum RunOption {
     Workers,
     Format,
     Trace,
+    DumpTo,
 }
 
 impl RunOption {
@@ -31,7 +57,11 @@ impl RunOption {
     {
         match self {
             RunOption::Trace => true,
-            RunOption::Pages | RunOption::History | RunOption::Workers | RunOption::Format => false,
+            RunOption::Pages
+            | RunOption::History
+            | RunOption::Workers
+            | RunOption::Format
+            | RunOption::DumpTo => false,
         }
     }
 }
@@ -44,6 +74,8 @@ pub(crate) struct Settings {
     pub(crate) workers: Option<u32>,
     pub(crate) csv: bool,
     pub(crate) trace: bool,
+    /// The place of the name that `--dump` says.
+    pub(crate) dump: Option<usize>,
 }
 
 fn option_of(word: &str) -> Option<RunOption>
@@ -55,6 +87,7 @@ fn option_of(word: &str) -> Option<RunOption>
         "--workers" => Some(RunOption::Workers),
         "--format" => Some(RunOption::Format),
         "--trace" => Some(RunOption::Trace),
+        "--dump" => Some(RunOption::DumpTo),
         _ => None,
     }
 }
@@ -78,6 +111,7 @@ impl Settings {
             workers: None,
             csv: false,
             trace: false,
+            dump: None,
         }
     }
 
@@ -90,6 +124,7 @@ impl Settings {
             RunOption::Workers => self.workers.is_some(),
             RunOption::Format => self.csv,
             RunOption::Trace => self.trace,
+            RunOption::DumpTo => self.dump.is_some(),
         }
     }
 
@@ -120,6 +155,20 @@ impl Settings {
         }
     }
 
+    fn with_name(self, device: &str, name: &str) -> Option<Settings>
+        ensures { result ≡ with_name device.now self name.now }
+    {
+        if is_free(device, name) {
+            let place = self.place() as usize;
+            Some(Settings {
+                dump: Some(place + 1),
+                ..self
+            })
+        } else {
+            None
+        }
+    }
+
     /// These and `--trace`.
     pub(crate) fn with_trace(self) -> Settings
         ensures { result ≡ with_trace self }
@@ -130,25 +179,27 @@ impl Settings {
         }
     }
 
-    /// These and the option with what is said of it, where that may be said. Nothing is said of `--trace`.
-    pub(crate) fn with(self, option: RunOption, said: &str) -> Option<Settings>
-        ensures { result ≡ with_said self option said.now }
+    /// These and the option with what is said of it, where that may be said. Nothing is said of `--trace`, and of `--dump` a
+    /// name that isn't the device's.
+    pub(crate) fn with(self, device: &str, option: RunOption, said: &str) -> Option<Settings>
+        ensures { result ≡ with_said device.now self option said.now }
     {
         match option {
             RunOption::Pages => self.with_pages(number_within(LEAST_SIZE, MOST_SIZE, said)),
             RunOption::History => self.with_history(number_within(LEAST_SIZE, MOST_SIZE, said)),
             RunOption::Workers => self.with_workers(number_within(1, MAX_WORKERS, said)),
             RunOption::Format if said == "csv+" => Some(Settings { csv: true, ..self }),
+            RunOption::DumpTo => self.with_name(device, said),
             RunOption::Format | RunOption::Trace => None,
         }
     }
 
-    /// The option that the word names. One that is given already is no option there.
-    pub(crate) fn next_option(self, word: &str) -> Option<RunOption>
-        ensures { result ≡ next_option self word.now }
+    /// The option of the verb that the word names. One that is given already is no option there.
+    pub(crate) fn next_option(self, verb: Verb, word: &str) -> Option<RunOption>
+        ensures { result ≡ next_option verb self word.now }
     {
         match option_of(word) {
-            Some(option) if !self.is_given(option) => Some(option),
+            Some(option) if verb.may_have(option) && !self.is_given(option) => Some(option),
             _ => None,
         }
     }
@@ -156,12 +207,19 @@ impl Settings {
     /// The place behind the device and these options.
     pub(crate) fn place(self) -> u32
         ensures place { result ≡ place_of self }
-        ensures near { result ≤ 11 }
+        ensures near { result ≤ 13 }
     {
         let numbers = words_of(self.pages.is_some()) + words_of(self.history.is_some());
         let said = numbers + words_of(self.workers.is_some()) + words_of(self.csv);
-        2 + said + u32::from(self.trace)
+        2 + said + words_of(self.dump.is_some()) + u32::from(self.trace)
     }
+}
+
+/// Whether the name may be that of a backup, where the device has this one.
+fn is_free(device: &str, name: &str) -> bool
+    ensures { result ≡ is_free device.now name.now }
+{
+    !is_dashed(name) && device != name
 }
 
 fn are_digits(bytes: &[u8]) -> bool

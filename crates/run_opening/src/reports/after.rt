@@ -2,50 +2,70 @@
 ghost use Rattle.std.specs.Prelude.{◌≡◌, ◌≤◌, ◌<◌, ◌⊎◌, ℕ, length, position, All, Any, IfSome, IsTrue};
 ghost use Rattle.std.specs.List.{list_any};
 ghost use Rattle.run_opening.specs.Outcomes.{IsFirst, breaks_off, damage_in, damaged_page, first_damage, has_fault, has_refusal, lacks_memory, notice_of};
+ghost use Rattle.run_opening.specs.Outcomes.{any_broken, any_damage, any_fault, any_refusal, any_want, broken_backup, damage_of_backup};
+ghost use Rattle.run_opening.specs.Outcomes.{is_fault_backup, is_refused_backup, is_want_backup};
 ghost use Rattle.run_opening.specs.Outcomes.{is_fault, is_refusal, is_stream_end, is_want};
 
 use crate::reports::notices::Notice;
-use crate::reports::reports::{Mark, SessionEnd, SessionReport};
+use crate::reports::reports::{BackupEnd, Mark, SessionEnd, SessionReport};
 use result_print::Refusal;
 
-/// What is told of sessions that ended so. Want of memory comes before a fault of the disk, that before damage, that before a fault of a
-/// stream, and that before a refusal.
-pub fn notice_after<S, K>(sessions: &[SessionReport<S, K>]) -> Notice
+/// What is told of sessions that ended so, and of a backup beside them, whose number is the one behind theirs. Want of memory comes
+/// before a fault of the disk, that before damage, that before a fault of a stream, and that before a refusal.
+pub fn notice_after<S, K>(sessions: &[SessionReport<S, K>], backup: Option<BackupEnd>) -> Notice
     requires { length sessions.now ≤ 16 }
-    ensures notice { result ≡ notice_of sessions.now }
+    ensures notice { result ≡ notice_of sessions.now backup }
 
-    // Then each script was read to its end, and each statement accepted.
-    ensures done { result ≡ Notice.Done → All (λ r. (r.end ≡ SessionEnd.Whole) × All (λ m. m.refusal ≡ None) r.marks) sessions.now }
+    // Then each script was read to its end, each statement accepted, and all of the backup went out.
+    ensures done { result ≡ Notice.Done → All (λ r. (r.end ≡ SessionEnd.Whole) × All (λ m. m.refusal ≡ None) r.marks) sessions.now
+        × IfSome backup (λ end. end ≡ BackupEnd.Whole) }
     ensures refused { result ≡ Notice.Refused → All (λ r. r.end ≡ SessionEnd.Whole) sessions.now
-        × Any (λ r. Any (λ m. IsTrue (is_refusal m.refusal)) r.marks) sessions.now }
+        × (Any (λ r. Any (λ m. IsTrue (is_refusal m.refusal)) r.marks) sessions.now ⊎ (backup ≡ Some BackupEnd.HistoryFull)) }
 
-    // The disk failed, or a page was damaged, where a reply says so.
-    ensures disk { result ≡ Notice.Disk → Any (λ r. Any (λ m. m.refusal ≡ Some Refusal.Disk) r.marks) sessions.now }
+    // The disk failed, or a page was damaged, where a reply or the backup says so.
+    ensures disk { result ≡ Notice.Disk → Any (λ r. Any (λ m. m.refusal ≡ Some Refusal.Disk) r.marks) sessions.now
+        ⊎ (backup ≡ Some BackupEnd.Disk) }
     ensures damaged { (page : ℕ) → result ≡ Notice.Damaged page
-        → Any (λ r. Any (λ m. m.refusal ≡ Some (Refusal.Damaged page)) r.marks) sessions.now }
+        → Any (λ r. Any (λ m. m.refusal ≡ Some (Refusal.Damaged page)) r.marks) sessions.now ⊎ (backup ≡ Some (BackupEnd.Damaged page)) }
 
-    // The least session whose source or sink failed.
+    // The least session whose source or sink failed, or the backup, whose sink did, where none is.
     ensures stream { (session : ℕ) → result ≡ Notice.Stream session
-        → IsFirst (λ r. (r.end ≡ SessionEnd.Source) ⊎ (r.end ≡ SessionEnd.Sink)) session sessions.now }
+        → IsFirst (λ r. (r.end ≡ SessionEnd.Source) ⊎ (r.end ≡ SessionEnd.Sink)) session sessions.now
+        ⊎ ((session ≡ length sessions.now) × (backup ≡ Some BackupEnd.Sink)) }
 {
-    if is_any_without_memory(sessions) {
+    if is_any_without_memory(sessions, backup) {
         return Notice::Memory;
     }
-    if is_any_with_fault(sessions) {
+    if is_any_with_fault(sessions, backup) {
         return Notice::Disk;
     }
-    if let Some(page) = damage_of(sessions) {
+    if let Some(page) = any_damage(sessions, backup) {
         return Notice::Damaged { page };
     }
-    match first_broken_off(sessions) {
+    match first_broken_off(sessions, backup) {
         Some(session) => Notice::Stream { session },
-        None if is_any_refused(sessions) => Notice::Refused,
+        None if is_any_refused(sessions, backup) => Notice::Refused,
         None => Notice::Done,
     }
 }
 
-/// Whether no memory was found for some session, or for one of its replies.
-fn is_any_without_memory<S, K>(sessions: &[SessionReport<S, K>]) -> bool
+/// Whether no memory was found for some session, for one of its replies, or for the backup.
+fn is_any_without_memory<S, K>(
+    sessions: &[SessionReport<S, K>],
+    backup: Option<BackupEnd>,
+) -> bool
+    ensures { result ≡ any_want sessions.now backup }
+{
+    any_lacks_memory(sessions) || is_want_backup(backup)
+}
+
+fn is_want_backup(backup: Option<BackupEnd>) -> bool
+    ensures { result ≡ is_want_backup backup }
+{
+    matches!(backup, Some(BackupEnd::Memory))
+}
+
+fn any_lacks_memory<S, K>(sessions: &[SessionReport<S, K>]) -> bool
     ensures { result ≡ list_any lacks_memory sessions.now }
 {
     sessions.iter().any(|session| is_without_memory(session))
@@ -69,8 +89,20 @@ fn is_unanswered(mark: &Mark) -> bool
     matches!(mark.refusal, Some(Refusal::Memory))
 }
 
-/// Whether the disk failed for some reply.
-fn is_any_with_fault<S, K>(sessions: &[SessionReport<S, K>]) -> bool
+/// Whether the disk failed for some reply, or for the backup.
+fn is_any_with_fault<S, K>(sessions: &[SessionReport<S, K>], backup: Option<BackupEnd>) -> bool
+    ensures { result ≡ any_fault sessions.now backup }
+{
+    any_has_fault(sessions) || is_fault_backup(backup)
+}
+
+fn is_fault_backup(backup: Option<BackupEnd>) -> bool
+    ensures { result ≡ is_fault_backup backup }
+{
+    matches!(backup, Some(BackupEnd::Disk))
+}
+
+fn any_has_fault<S, K>(sessions: &[SessionReport<S, K>]) -> bool
     ensures { result ≡ list_any has_fault sessions.now }
 {
     sessions
@@ -90,7 +122,25 @@ fn is_of_disk(mark: &Mark) -> bool
     matches!(mark.refusal, Some(Refusal::Disk))
 }
 
-/// The page that the first reply tells of which finds one damaged.
+/// The page that the first reply tells of which finds one damaged, or the backup where none does.
+fn any_damage<S, K>(sessions: &[SessionReport<S, K>], backup: Option<BackupEnd>) -> Option<u32>
+    ensures { result ≡ any_damage sessions.now backup }
+{
+    match damage_of(sessions) {
+        Some(page) => Some(page),
+        None => damage_of_backup(backup),
+    }
+}
+
+fn damage_of_backup(backup: Option<BackupEnd>) -> Option<u32>
+    ensures { result ≡ damage_of_backup backup }
+{
+    match backup {
+        Some(BackupEnd::Damaged { page }) => Some(page),
+        _ => None,
+    }
+}
+
 fn damage_of<S, K>(sessions: &[SessionReport<S, K>]) -> Option<u32>
     ensures { result ≡ first_damage sessions.now }
 {
@@ -122,8 +172,30 @@ fn page_in(mark: &Mark) -> Option<u32>
     }
 }
 
-/// The first session whose source or sink failed.
-fn first_broken_off<S, K>(sessions: &[SessionReport<S, K>]) -> Option<u32>
+/// The first session whose source or sink failed, or the backup's number, if its sink failed, where none is.
+fn first_broken_off<S, K>(
+    sessions: &[SessionReport<S, K>],
+    backup: Option<BackupEnd>,
+) -> Option<u32>
+    requires { length sessions.now ≤ 16 }
+    ensures { result ≡ any_broken sessions.now backup }
+{
+    match first_session(sessions) {
+        Some(session) => Some(session),
+        None => broken_backup(sessions.len() as u32, backup),
+    }
+}
+
+fn broken_backup(count: u32, backup: Option<BackupEnd>) -> Option<u32>
+    ensures { result ≡ broken_backup count backup }
+{
+    match backup {
+        Some(BackupEnd::Sink) => Some(count),
+        _ => None,
+    }
+}
+
+fn first_session<S, K>(sessions: &[SessionReport<S, K>]) -> Option<u32>
     requires { length sessions.now ≤ 16 }
     ensures { result ≡ position breaks_off sessions.now }
 {
@@ -148,8 +220,21 @@ fn is_broken_off(end: SessionEnd) -> bool
     matches!(end, SessionEnd::Source | SessionEnd::Sink)
 }
 
-/// Whether some statement was refused for another reason than want of memory, a fault of the disk or damage.
-fn is_any_refused<S, K>(sessions: &[SessionReport<S, K>]) -> bool
+/// Whether some statement was refused for another reason than want of memory, a fault of the disk or damage, or the backup had no
+/// room for its pin.
+fn is_any_refused<S, K>(sessions: &[SessionReport<S, K>], backup: Option<BackupEnd>) -> bool
+    ensures { result ≡ any_refusal sessions.now backup }
+{
+    any_has_refusal(sessions) || is_refused_backup(backup)
+}
+
+fn is_refused_backup(backup: Option<BackupEnd>) -> bool
+    ensures { result ≡ is_refused_backup backup }
+{
+    matches!(backup, Some(BackupEnd::HistoryFull))
+}
+
+fn any_has_refusal<S, K>(sessions: &[SessionReport<S, K>]) -> bool
     ensures { result ≡ list_any has_refusal sessions.now }
 {
     sessions

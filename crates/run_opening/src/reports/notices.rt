@@ -1,7 +1,7 @@
 //! How a run ends.
 ghost use Rattle.std.specs.Prelude.{◌≡◌, ◌++◌, IfOk};
 ghost use Rattle.std.specs.Fmt.{decimal};
-ghost use Rattle.run_opening.specs.Notice.{line_of_notice, status_of};
+ghost use Rattle.run_opening.specs.Notice.{full_line, line_of_notice, status_of};
 
 use cell_values::{Bytes, Memory};
 use itoa::Buffer;
@@ -28,6 +28,12 @@ pub enum Notice {
     NotEmpty { length: u64 },
     /// A payload that begins at this page can't be read.
     Damaged { page: u32 },
+    /// What was read is no backup, first at this byte.
+    NotBackup { at: u64 },
+    /// The overlap of the payload that begins at this page isn't what its neighbours hold.
+    WrongOverlap { page: u32 },
+    /// A database needs so many pages, and so many are free.
+    Full { needed: u32, free: u32 },
 }
 
 /// The status with which the program ends.
@@ -44,6 +50,9 @@ pub fn status(notice: Notice) -> u8
         Notice::NotDatabase { page: _ } => 6,
         Notice::NotEmpty { length: _ } => 7,
         Notice::Damaged { page: _ } => 8,
+        Notice::NotBackup { at: _ } => 9,
+        Notice::WrongOverlap { page: _ } => 10,
+        Notice::Full { needed: _, free: _ } => 11,
     }
 }
 
@@ -72,7 +81,26 @@ pub fn notice_line(alloc: Global, notice: &Notice) -> Result<Bytes, Memory>
         Notice::Damaged { page } => {
             numbered_line(alloc, b"aflshell: damaged page ", u64::from(*page), b"\n")
         }
+        Notice::NotBackup { at } => {
+            numbered_line(alloc, b"aflshell: not a backup: byte ", *at, b"\n")
+        }
+        Notice::WrongOverlap { page } => {
+            let words = b"aflshell: wrong overlap: page ";
+            numbered_line(alloc, words, u64::from(*page), b"\n")
+        }
+        Notice::Full { needed, free } => full_line(alloc, *needed, *free),
     }
+}
+
+fn full_line(alloc: Global, needed: u32, free: u32) -> Result<Bytes, Memory>
+    ensures { IfOk result (λ line. line ≡ full_line needed free) }
+{
+    let mut buffer = Buffer::new();
+    let words = b"aflshell: full: needs ";
+    let mut line = numbered_line(alloc, words, u64::from(needed), b" pages, ")?;
+    line.extend(buffer.format(free).as_bytes())?;
+    line.extend(b" free\n")?;
+    Ok(line)
 }
 
 fn numbered_line(alloc: Global, words: &[u8], number: u64, end: &[u8]) -> Result<Bytes, Memory>

@@ -5,7 +5,7 @@ ghost use Rattle.store_state.specs.At.{standing};
 ghost use Rattle.store_state.specs.Standings.{Standing};
 ghost use Rattle.run_opening.specs.Ends.{IsClosed, IsReaped};
 
-use crate::reports::{Notice, SessionReport, notice_after};
+use crate::reports::{BackupEnd, Notice, SessionReport, notice_after};
 use afl_outside::Disk;
 use array_store::Store;
 use cell_values::{List, Memory};
@@ -26,30 +26,35 @@ pub struct StoreRun<D, S, K> {
 }
 
 /// All pages that nobody can name become free, if the history has room for that. What is told of the sessions, unless no memory is found.
-fn told_after<D: Disk, S, K>(store: &mut Store<D>, sessions: &[SessionReport<S, K>]) -> Notice
+fn told_after<D: Disk, S, K>(
+    store: &mut Store<D>,
+    sessions: &[SessionReport<S, K>],
+    backup: Option<BackupEnd>,
+) -> Notice
     requires { length sessions.now ≤ 16 }
-    ensures notice { (result ≡ Notice.Memory) ⊎ (result ≡ notice_of sessions.now) }
+    ensures notice { (result ≡ Notice.Memory) ⊎ (result ≡ notice_of sessions.now backup) }
     ensures reaped { IsReaped result (standing D.moment store.old) (standing D.moment store.new) }
 {
     match store.reap() {
-        Ok(_) => notice_after(sessions),
+        Ok(_) => notice_after(sessions, backup),
         Err(Memory) => Notice::Memory,
     }
 }
 
-/// Closes a store after its sessions, once all pages that nobody can name are free, if the history has room for that. Where no memory is
+/// Closes a store after its sessions and a backup that ended so, once all pages that nobody can name are free, if the history has room for that. Where no memory is
 /// found for that, this is told.
 pub fn close_store<D: Disk, S: Drop, K: Drop>(
     store: Store<D>,
     sessions: List<SessionReport<S, K>>,
+    backup: Option<BackupEnd>,
 ) -> StoreRun<D, S, K>
     requires { length sessions ≤ 16 }
-    ensures notice { (result.notice ≡ Notice.Memory) ⊎ (result.notice ≡ notice_of sessions) }
+    ensures notice { (result.notice ≡ Notice.Memory) ⊎ (result.notice ≡ notice_of sessions backup) }
     ensures sessions { result.sessions ≡ sessions }
     ensures closed { (end : Standing D) × IsClosed D.moment (standing D.moment store) end result }
 {
     let mut store = store;
-    let notice = told_after(&mut store, sessions.as_slice());
+    let notice = told_after(&mut store, sessions.as_slice(), backup);
     let free_pages = u64::from(store.free_pages());
     store.is_at();
     let (disk, history) = store.close();

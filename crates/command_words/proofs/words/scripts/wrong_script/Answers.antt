@@ -6,7 +6,7 @@ pub returns-then-not-can_stand-clause-wrong : goal.returns-then-not-can_stand-cl
 returns-then-not-can_stand-clause-wrong c =
     let words = c.args.words.now in
     let i = c.loop-place.place in
-    wrong_here c.args.device.now words (take i words) i c.index-words-place.result c.as_str.result.now c.loop-place-test.true
+    wrong_here c.args.device.now c.args.backup.now words (take i words) i c.index-words-place.result c.as_str.result.now c.loop-place-test.true
     c.index-words-place.is refl c.as_str.ensures c.loop-place.invariant.0 (sym c.can_stand.ensures ∙ c.if-not-can_stand.true)
 
 pub loop-place-preserved : goal.loop-place-preserved
@@ -15,8 +15,8 @@ loop-place-preserved c =
     let words = c.args.words.now in
     let i = c.loop-place.place in
     let can = sym c.can_stand.ensures ∙ c.if-not-can_stand.false in (
-      wrong_next device words (take i words) i c.index-words-place.result c.as_str.result.now c.loop-place-test.true
+      wrong_next device c.args.backup.now words (take i words) i c.index-words-place.result c.as_str.result.now c.loop-place-test.true
           c.index-words-place.is refl c.as_str.ensures c.loop-place.invariant.0 can,
-      still_few device words (take i words) i c.index-words-place.result c.as_str.result.now c.loop-place-test.true
+      still_few device c.args.backup.now words (take i words) i c.index-words-place.result c.as_str.result.now c.loop-place-test.true
           c.index-words-place.is refl c.as_str.ensures c.loop-place.invariant.0 can,
     )

@@ -15,4 +15,4 @@ told_after-notice-requires g c = subst (λ l. length l ≤ 16) (sym c.as_slice.e
 pub returns-clause-notice : goal.returns-clause-notice
 returns-clause-notice g c =
     let notice = c.told_after-notice.result in
-    subst (λ l. (notice ≡ Memory) ⊎ (notice ≡ notice_of l)) c.as_slice.ensures c.told_after-notice.ensures.notice
+    subst (λ l. (notice ≡ Memory) ⊎ (notice ≡ notice_of l c.args.backup)) c.as_slice.ensures c.told_after-notice.ensures.notice
