@@ -1,0 +1,13 @@
+pub mod Claims
+pub mod Entries
+pub mod Found
+pub mod Laid
+pub mod Lengths
+pub mod News
+pub mod Parts
+pub mod Restored
+pub mod Rules
+pub mod Standing
+pub mod Sums
+pub mod Tested
+pub mod Written

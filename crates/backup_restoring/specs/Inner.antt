@@ -1,0 +1,4 @@
+pub mod Layout
+pub mod Making
+pub mod Steps
+pub mod Writing
