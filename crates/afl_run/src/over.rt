@@ -85,10 +85,15 @@ fn run_store<
         ⊎ ((end : Standing D) × RunsTo options.style D.moment S.state K.state (start_of (standing D.moment store)) streams end result) }
 {
     texts_have_tree_or_stop();
-    match run_sessions(rt, alloc, store, streams, &options, gate) {
-        Ok((store, sessions)) => close_store(store, sessions),
-        Err((Memory, store, streams)) => {
+    let none: Option<K> = None;
+    match run_sessions(rt, alloc, store, streams, none, &options, gate) {
+        Ok((store, sessions, backup)) => {
+            drop(backup);
+            close_store(store, sessions)
+        }
+        Err((Memory, store, streams, none)) => {
             drop(streams);
+            drop(none);
             let (disk, entries) = store.close();
             let_go_entries(entries);
             unrun(alloc, Notice::Memory, disk)

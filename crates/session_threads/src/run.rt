@@ -28,7 +28,6 @@ use std::sync::Wait;
 use std::thread::Threads;
 
 /// The streams of the scripts, and the sink of the backup.
-#[derive(Drop)]
 struct Inputs<S, K> {
     streams: List<Streams<S, K>>,
     backup: Option<K>,
@@ -166,9 +165,13 @@ fn last_seated<P: Drop, K: Drop>(
 {
     match backup {
         Some(sink) => {
-            let seat = seats.remove(0);
+            let next = seats.remove(0);
             let own = seats.remove(0);
-            (Some(BackupDesk { seat, item: sink }), own)
+            let desk = BackupDesk {
+                seat: next,
+                item: sink,
+            };
+            (Some(desk), own)
         }
         None => {
             let own = seats.remove(0);
