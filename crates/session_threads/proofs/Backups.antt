@@ -11,7 +11,7 @@ use Rattle.snapshot_manager.specs.Seats.{seen, session_of, start, AreIdleSeats, 
 use Rattle.snapshot_manager.specs.declared.seat.Seat.{Seat}
 use Rattle.snapshot_manager.specs.declared.shared.Shared.{Shared}
 use Rattle.backup_stream.specs.Dumps.{IsDumped}
-use Rattle.backup_stream.specs.declared.report.BackupReport.{BackupReport}
+use Rattle.run_opening.specs.declared.reports.reports.BackupReport.{BackupReport}
 use Rattle.session_threads.specs.Sessions.{seats_for, HasBackup, IsBackupOf}
 use Rattle.session_threads.specs.Inner.Backups.{HasMade, IsMade, IsSeatedAt, IsTakenBack, IsWaitingBackup, MayHaveMade}
 use Rattle.session_threads.specs.declared.backup.BackupDesk.{BackupDesk}

@@ -29,7 +29,7 @@ use Rattle.run_opening.specs.contracts.reports.reports.Mark as mark
 use Rattle.run_opening.specs.contracts.reports.reports.SessionReport as report
 use Rattle.run_opening.specs.contracts.reports.reports.Streams as streams
 use Rattle.session_answers.specs.contracts.turns.settings.Options as options
-use Rattle.backup_stream.specs.contracts.report.BackupReport as backup_report
+use Rattle.run_opening.specs.contracts.reports.reports.BackupReport as backup_report
 use Rattle.session_threads.specs.contracts.backup.BackupDesk as backup_desk
 use Rattle.session_threads.specs.contracts.desk.Desk as desk
 

@@ -15,7 +15,7 @@ use Rattle.afl_session.specs.Session.{Serves}
 use Rattle.afl_session.specs.Style.{Style}
 use Rattle.run_opening.specs.declared.reports.reports.Streams.{Streams}
 use Rattle.backup_stream.specs.Dumps.{IsDumped}
-use Rattle.backup_stream.specs.declared.report.BackupReport.{BackupReport}
+use Rattle.run_opening.specs.declared.reports.reports.BackupReport.{BackupReport}
 
 module _ {D S K : Type 0} (style : Style) (moment : D → Moment) (source_of : S → SourceState) (sink_of : K → SinkState) (origin : Start D) where
   -- A SESSION OVER ONE HISTORY: what it had seen at its end is a beginning of the history, in which each commit was acknowledged; none of

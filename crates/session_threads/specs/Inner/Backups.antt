@@ -10,7 +10,7 @@ use Rattle.run_opening.specs.declared.reports.reports.SessionReport.{SessionRepo
 use Rattle.run_opening.specs.declared.reports.reports.Streams.{Streams}
 use Rattle.afl_session.specs.Style.{Style}
 use Rattle.backup_stream.specs.Dumps.{IsDumped}
-use Rattle.backup_stream.specs.declared.report.BackupReport.{BackupReport}
+use Rattle.run_opening.specs.declared.reports.reports.BackupReport.{BackupReport}
 use Rattle.session_threads.specs.Inner.Desks.{AllWorked, CanWork}
 use Rattle.session_threads.specs.declared.backup.BackupDesk.{BackupDesk}
 use Rattle.session_threads.specs.declared.tasks.Tasks.{Tasks}
