@@ -144,9 +144,9 @@ traced_stands device backup settings stands = record { few = stands.few; good = 
 
 module _ (verb : Verb) (device : Word) where
   least_tail : (backup : List Word) (settings : Settings) → Stands device backup settings → IsTail verb device backup settings (least verb (device ∷ backup)) (form_for verb settings)
+  unfolding least
   least_tail backup settings stands = ends_tail verb device backup settings (least verb (device ∷ backup)) (form_for verb settings) (may verb) refl where
     may : (v : Verb) → MayEnd v (device ∷ backup) (least v (device ∷ backup))
-    unfolding least
     may verbs.Run = (lit≤ tt, good_fresh device backup stands.good (one_backup device backup settings stands))
     may verbs.Dump = refl
     may verbs.Restore = refl

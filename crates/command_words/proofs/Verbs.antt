@@ -246,10 +246,12 @@ tail_run device named words form tail = subst (IsForm (codes "run" ∷ device �
 )
 
 tail_dump : (device : Word) → is_dashed device ≡ false → (words : List Word) (form : Form) → IsTail verbs.Dump device [] no_settings words form → IsForm (codes "dump" ∷ device ∷ words) form
+unfolding tail_options
 tail_dump device named words form tail = subst (IsForm (codes "dump" ∷ device ∷ words)) (sym tail.is)
     (refl, record { has = tail_options verbs.Dump device named words form tail tail.ends; pages_given = refl; history_given = refl })
 
 tail_restore : (device : Word) → is_dashed device ≡ false → (words : List Word) (form : Form) → IsTail verbs.Restore device [] no_settings words form → IsForm (codes "restore" ∷ device ∷ words) form
+unfolding tail_options
 tail_restore device named words form tail = subst (IsForm (codes "restore" ∷ device ∷ words)) (sym tail.is)
     (refl, record { has = tail_options verbs.Restore device named words form tail tail.ends; pages_given = refl })
 
@@ -311,12 +313,14 @@ least_options verb = record {
 }
 
 least_dump : IsForm (codes "dump" ∷ codes "a" ∷ []) (Dump 1 65536 1048576)
+unfolding least_options
 least_dump = (refl, record { has = least_options verbs.Dump; pages_given = refl; history_given = refl })
 
 dump_judged : (words : List Word) → Judged 1 (λ rest. IsForm (codes "dump" ∷ rest)) words (read_options verbs.Dump words)
 dump_judged = options_judged verbs.Dump (λ rest. IsForm (codes "dump" ∷ rest)) dump_tail tail_dump (codes "a" ∷ []) (Dump 1 65536 1048576) least_dump
 
 least_restore : IsForm (codes "restore" ∷ codes "a" ∷ []) (Restore 1 65536)
+unfolding least_options
 least_restore = (refl, record { has = least_options verbs.Restore; pages_given = refl })
 
 restore_judged : (words : List Word) → Judged 1 (λ rest. IsForm (codes "restore" ∷ rest)) words (read_options verbs.Restore words)

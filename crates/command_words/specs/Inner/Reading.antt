@@ -41,7 +41,6 @@ abbrev pub with_workers : Settings → Option ℕ → Option Settings
 with_workers settings None = None
 with_workers settings (Some number) = Some (record settings { workers = Some number })
 
-
 -- these settings and `--trace`, of which nothing is said
 abbrev pub with_trace : Settings → Settings
 with_trace settings = record settings { trace = true }

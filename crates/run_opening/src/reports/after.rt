@@ -50,10 +50,7 @@ pub fn notice_after<S, K>(sessions: &[SessionReport<S, K>], backup: Option<Backu
 }
 
 /// Whether no memory was found for some session, for one of its replies, or for the backup.
-fn is_any_without_memory<S, K>(
-    sessions: &[SessionReport<S, K>],
-    backup: Option<BackupEnd>,
-) -> bool
+fn is_any_without_memory<S, K>(sessions: &[SessionReport<S, K>], backup: Option<BackupEnd>) -> bool
     ensures { result ≡ any_want sessions.now backup }
 {
     any_lacks_memory(sessions) || is_want_backup(backup)

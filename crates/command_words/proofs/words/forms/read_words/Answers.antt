@@ -12,13 +12,13 @@ returns-in-try c =
 
 pub returns-in-init : goal.returns-in-init
 returns-in-init c =
-    c.read_device-in-init.ensures
+    c.read_device.ensures
     ∙ ap (λ (v : Word). read_verb v (behind c.args.words.now)) (sym c.in-init.is)
     ∙ words_first c.args.words.now c.verb-item.result c.as_str.result.now c.in-len1-up.len_at_least c.verb-item.is c.as_str.ensures
 
 pub returns-in-run : goal.returns-in-run
 returns-in-run c =
-    c.read_options-in-run.ensures
+    c.read_options.ensures
     ∙ ap (λ (v : Word). read_verb v (behind c.args.words.now)) (sym c.in-run.is)
     ∙ words_first c.args.words.now c.verb-item.result c.as_str.result.now c.in-len1-up.len_at_least c.verb-item.is c.as_str.ensures
 
