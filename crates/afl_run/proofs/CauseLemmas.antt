@@ -261,10 +261,10 @@ module _ {D K : Type 0} (moment : D → Moment) (sink_state : K → SinkState) (
         let cause = subst (HasNoPinCause moment start session [] dumped.seen (sink_state sink) (sink_state report.sink) report.place) is none.cause in absurd cause
   ]
 
-some_end : (end other : BackupEnd) → Some end ≡ Some other → end ≡ other
+pub some_end : (end other : BackupEnd) → Some end ≡ Some other → end ≡ other
 some_end end other is = cc
 
-never_ended : (other : BackupEnd) → None ≡ Some other → ⊥
+pub never_ended : (other : BackupEnd) → None ≡ Some other → ⊥
 never_ended other is = absurd (cc (is))
 
 -- where a backup may have been made

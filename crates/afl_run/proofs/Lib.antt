@@ -1,3 +1,4 @@
+pub mod BackupLemmas
 pub mod CauseLemmas
 pub mod FormLemmas
 pub mod GeneratedLemmas
