@@ -174,3 +174,10 @@ module _ {D S K : Type 0} (style : Style) (moment : D → Moment) (source_state 
     cause = subst (λ (r : StoreRun D S K). TellsUnopened r.notice (moment old).state (moment r.disk).state) (sym is) cause;
     unwritten = ap (λ (r : StoreRun D S K). (moment r.disk).state.seen) is ∙ reads.seen;
   }
+
+  -- no backup was made where there is no sink for one
+  pub without_backup : (disk : D) (limits : Limits) (streams : List (Streams S K)) (run : StoreRun D S K) (backup : Option (BackupReport K))
+      → (IsUnrun moment disk run × (backup ≡ None)) ⊎ ((end : Standing D) × RunsOver style moment source_state sink_state disk limits streams None end run backup)
+      → IsUnrun moment disk run ⊎ ((end : Standing D) × RunsOver style moment source_state sink_state disk limits streams None end run None)
+  without_backup disk limits streams run None ran = elim ran [ inl unrun ↦ inl unrun.0 | inr over ↦ inr over ]
+  without_backup disk limits streams run (Some report) ran = elim ran [ inl unrun ↦ absurd (let is = unrun.1 in cc) | inr over ↦ absurd over.1.runs.dumped ]

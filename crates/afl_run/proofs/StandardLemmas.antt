@@ -119,7 +119,7 @@ opens_if_told told old now script reply fails = elim fails [
 
 -- a disk in memory never fails
 pub never_fails : {S K : Type 0} {source_state : S → SourceState} {sink_state : K → SinkState} {sessions : List (SessionReport S K)} {notice : Notice} (end : Standing SureBytes)
-    → HasCause sure_disk_moment source_state sink_state sessions notice end → notice ≡ notices.Disk → ⊥
+    → HasCause sure_disk_moment source_state sink_state sessions None notice end → notice ≡ notices.Disk → ⊥
 never_fails end causes is = let rose : risen 0 ≤ 0 = causes.disk is in absurd (omega (arith, rose))
 
 -- no session broke off whose streams' counts stand still
@@ -140,9 +140,9 @@ told_of_sessions false false None None true = tt
 told_of_sessions false false None None false = tt
 
 pub answers_all : {S K : Type 0} {source_state : S → SourceState} {sink_state : K → SinkState} (sessions : List (SessionReport S K)) (notice : Notice) (end : Standing SureBytes)
-    → HasCause sure_disk_moment source_state sink_state sessions notice end → (db : Database) → BeganAs (sure_disk_moment end.opened.disk).state db
+    → HasCause sure_disk_moment source_state sink_state sessions None notice end → (db : Database) → BeganAs (sure_disk_moment end.opened.disk).state db
     → All (λ report. (Rose 0 (source_state report.source).faults → ⊥) × (Rose 0 (sink_state report.sink).faults → ⊥)) sessions
-    → (notice ≡ notices.Memory) ⊎ (notice ≡ notice_of sessions) → IsOfAnswers notice
+    → (notice ≡ notices.Memory) ⊎ (notice ≡ notice_of sessions None) → IsOfAnswers notice
 answers_all {source_state = source_state} {sink_state = sink_state} sessions notice end causes db database calm told = by notice refl (elim told [
   | inl memory ↦ subst (λ (n : Notice). IsOfSessions n) (sym memory) tt
   | inr after ↦ subst (λ (n : Notice). IsOfSessions n) (sym after) (told_of_sessions _ _ _ _ _)
@@ -154,10 +154,16 @@ answers_all {source_state = source_state} {sink_state = sink_state} sessions not
     by notices.Memory is among = tt
     by notices.Disk is among = absurd (never_fails end causes is)
     by (notices.Damaged page) is among = absurd (causes.damaged page is db database)
-    by (notices.Stream session) is among = absurd (calm_at source_state sink_state sessions session calm (causes.stream session is))
+    by (notices.Stream session) is among = absurd (elim (causes.stream session is) [
+      | inl own ↦ calm_at source_state sink_state sessions session calm own
+      | inr backup ↦ absurd backup.1
+    ])
     by (notices.Usage word) is among = absurd among
     by (notices.NotDatabase page) is among = absurd among
     by (notices.NotEmpty count) is among = absurd among
+    by (notices.NotBackup at) is among = absurd among
+    by (notices.WrongOverlap page) is among = absurd among
+    by (notices.Full needed free) is among = absurd among
 
 module _ {S K : Type 0} (source_state : S → SourceState) (sink_state : K → SinkState) (old now : ShelfState) where
   pub tries_nothing : (told : Notice) → LeavesUnasked (stream_names (standard ∷ [])) old now → HandsOutSome 1 old now
@@ -177,7 +183,7 @@ module _ {S K : Type 0} (source_state : S → SourceState) (sink_state : K → S
       reported = inl refl;
     };
     none = λ is. (refl, refl, fails);
-    told = λ ran. absurd (ran refl);
+    told = λ ran. absurd (ran (refl, refl));
     one = λ ran. absurd (ran refl);
   }
 
@@ -205,16 +211,16 @@ module _ {S K : Type 0} (source_state : S → SourceState) (sink_state : K → S
         reported = inl (ap length unrun.none);
       };
       none = λ is. (unrun.nothing, unrun.no_pages, inl memory);
-      told = λ ran. absurd (ran unrun.none);
+      told = λ ran. absurd (ran (unrun.none, refl));
       one = λ ran. absurd (ran unrun.none);
     }
 
-    tries_over : (end : Standing SureBytes) → RunsOver plain sure_disk_moment source_state sink_state disk limits streams end run
+    tries_over : (end : Standing SureBytes) → RunsOver plain sure_disk_moment source_state sink_state disk limits streams None end run None
         → RunsTry sure_disk_moment source_state sink_state old now run.notice run.history run.sessions run.free_pages
     tries_over end over =
         let many : length run.sessions ≡ length streams = over.runs.count in
         let all : length streams ≡ 1 = zip_length (IsOpenedFor source_state sink_state old) (standard ∷ []) streams opened in
-        let one = one_history plain sure_disk_moment source_state sink_state streams (opened_fresh plain sure_disk_moment source_state sink_state old (standard ∷ []) streams opened) disk limits run end over in
+        let one = one_history plain sure_disk_moment source_state sink_state streams (opened_fresh plain sure_disk_moment source_state sink_state old (standard ∷ []) streams opened) disk limits None tt run None end over in
         let database = began_empty sure_disk_moment disk limits end over.opened empty in
         record {
           first = λ is. let none : length run.sessions ≡ 0 = ap length is in absurd (omega (arith, many, all, none));
@@ -243,7 +249,7 @@ module _ {S K : Type 0} (source_state : S → SourceState) (sink_state : K → S
           );
         }
 
-    pub tries_ran : IsUnrun sure_disk_moment disk run ⊎ ((end : Standing SureBytes) × RunsOver plain sure_disk_moment source_state sink_state disk limits streams end run)
+    pub tries_ran : IsUnrun sure_disk_moment disk run ⊎ ((end : Standing SureBytes) × RunsOver plain sure_disk_moment source_state sink_state disk limits streams None end run None)
         → RunsTry sure_disk_moment source_state sink_state old now run.notice run.history run.sessions run.free_pages
     tries_ran ran = elim ran [ inl unrun ↦ tries_unrun unrun | inr over ↦ tries_over over.0 over.1 ]
 

@@ -12,7 +12,7 @@ ghost use Rattle.afl_run.specs.Inner.Making.{IsEmpty};
 ghost use Rattle.afl_run.specs.Inner.Over.{IsUnrun, RunsOver};
 ghost use Rattle.afl_run.specs.Run.{plain};
 
-use crate::over::{Inputs, run_over};
+use crate::over::run_alone;
 use crate::report::{Report, unrun};
 use crate::standard::{LIMITS, PLAIN, empty_database};
 use afl_lexer::Splitter;
@@ -133,13 +133,7 @@ fn run_on_sink<K: Sink + Send + Drop, R: Threads + Wait + Sync, G: Gate>(
         workers,
         style: PLAIN,
     };
-    let inputs = Inputs {
-        streams,
-        backup: None,
-    };
-    let (run, backup) = run_over(rt, alloc, disk, LIMITS, options, inputs, gate);
-    drop(backup);
-    run
+    run_alone(rt, alloc, disk, LIMITS, options, streams, gate)
 }
 
 /// The streams of the session, in the room that is there for them.

@@ -64,6 +64,37 @@ pub(crate) fn run_over<
     }
 }
 
+/// The same, where no backup is asked for.
+pub(crate) fn run_alone<
+    D: Disk + Send + Drop,
+    S: Source + Send + Drop,
+    K: Sink + Send + Drop,
+    R: Threads + Wait + Sync,
+    G: Gate,
+>(
+    rt: &R,
+    alloc: Global,
+    disk: D,
+    limits: Limits,
+    options: Options,
+    streams: List<Streams<S, K>>,
+    gate: &G,
+) -> StoreRun<D, S, K>
+    requires workers { (1 ≤ options.workers) × (options.workers ≤ 64) }
+    requires count { HasSessions (length streams) }
+    requires begun { All (λ own. StandsAfter [] own.splitter) streams }
+    ensures same { DiskGoesOn (D.moment disk).state (D.moment result.disk).state }
+    ensures run { IsUnrun D.moment disk result ⊎ ((end : Standing D) × RunsOver options.style D.moment S.state K.state disk limits streams None end result None) }
+{
+    let inputs = Inputs {
+        streams,
+        backup: None,
+    };
+    let (run, backup) = run_over(rt, alloc, disk, limits, options, inputs, gate);
+    drop(backup);
+    run
+}
+
 /// Where no session ran.
 fn unrun<D: Disk, S: Drop, K: Drop>(alloc: Global, notice: Notice, disk: D) -> StoreRun<D, S, K>
     ensures { result ≡ record { notice = notice; history = []; sessions = []; free_pages = 0; disk = disk } }

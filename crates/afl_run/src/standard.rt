@@ -8,7 +8,7 @@ ghost use Rattle.afl_run.specs.Inner.Making.{IsEmpty};
 ghost use Rattle.afl_run.specs.Run.{RunsTry};
 
 use crate::database::make;
-use crate::over::{Inputs, run_over};
+use crate::over::run_alone;
 use crate::report::{Report, unrun};
 use afl_outside::{Gate, Shelf, SureDisk};
 use cell_values::{Bytes, Memory};
@@ -97,12 +97,7 @@ fn run_standard<F: Shelf, R: Threads + Wait + Sync, G: Gate>(
     let mut shelf = shelf;
     match open_streams(alloc, names, &mut shelf) {
         Ok(streams) => {
-            let inputs = Inputs {
-                streams,
-                backup: None,
-            };
-            let (run, backup) = run_over(rt, alloc, disk, LIMITS, OPTIONS, inputs, gate);
-            drop(backup);
+            let run = run_alone(rt, alloc, disk, LIMITS, OPTIONS, streams, gate);
             report_of(run, shelf)
         }
         Err(notice) => unrun(alloc, notice, None, shelf),
