@@ -1,4 +1,4 @@
-use Rattle.std.proofs.Common.{◌≡◌, ◌∙◌, ◌+◌, ◌≤◌, ap, arith, inl, inr, length, refl, subst, sym}
+use Rattle.std.proofs.Common.{◌≡◌, ◌∙◌, ◌+◌, ◌≤◌, ap, arith, inl, inr, length, refl, subst}
 use Rattle.run_opening.specs.Starts.{start_of}
 use Rattle.session_threads.specs.Sessions.{AreOfSessions}
 use Rattle.store_state.specs.At.{standing}
