@@ -1,4 +1,5 @@
 pub mod CauseLemmas
+pub mod CompleteLemmas
 pub mod FormLemmas
 pub mod GeneratedLemmas
 pub mod MakingLemmas

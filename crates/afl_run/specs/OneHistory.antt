@@ -1,5 +1,5 @@
 -- ONE HISTORY: what a run over a store tells at its end.
-use Rattle.std.specs.Prelude.{◌≡◌, ◌⊎◌, ℕ, ◌<◌, false, List, [], length, slice_get, slice_index_or, IsSomeAnd, IsTrue}
+use Rattle.std.specs.Prelude.{◌≡◌, ◌⊎◌, ℕ, ◌<◌, false, List, [], length, slice_get, slice_index_or, IfSome, IsSomeAnd, IsTrue}
 use Rattle.std.specs.List.{list_all}
 use Rattle.afl_outside.specs.Counts.{Rose}
 use Rattle.afl_outside.specs.Disk.{Moment}
@@ -25,6 +25,7 @@ use Rattle.session_threads.specs.Histories.{IsMarkedIn}
 use Rattle.session_threads.specs.Marked.{IsMarked}
 use Rattle.session_threads.specs.Style.{Style}
 use Rattle.run_opening.specs.Held.{HoldsHistory}
+use Rattle.run_opening.specs.Kept.{HasFailed}
 use Rattle.afl_run.specs.Printed.{Prints}
 
 module _ {D S K : Type 0} (moment : D → Moment) (source_state : S → SourceState) (sink_state : K → SinkState) where
@@ -60,6 +61,8 @@ module _ {D S K : Type 0} (style : Style) (moment : D → Moment) (source_state 
     -- each page that nobody can name is free, or one more entry would pass the limit
     pub reaped : (notice ≡ Memory → ⊥) → reap_comes store.ledger ≡ false
     pub causes : HasCause moment source_state sink_state sessions notice store
+    -- a change is in doubt only where a call of the disk failed
+    pub doubt : IfSome store.doubt (λ _. HasFailed (moment store.opened.disk).state (moment store.disk).state)
     pub cells : (db : Database) → BeganAs (moment store.opened.disk).state db → HoldsHistory moment store db
     -- whatever the file stood for as it was opened, each image has each payload, whole or with the bytes of then
     pub payloads : (file : List ℕ) → HasTold (moment store.opened.disk).state file → (image : List ℕ) → (moment store.disk).may_leave image

@@ -37,26 +37,31 @@ pub(crate) fn run_over<
     requires count { (1 ≤ length streams) × (length streams ≤ 16) }
     requires begun { All (λ own. StandsAfter [] own.splitter) streams }
     ensures same { DiskGoesOn (D.moment disk).state (D.moment result.disk).state }
-    ensures run { IsUnrun D.moment disk result ⊎ ((end : Standing D) × RunsOver options.style D.moment S.state K.state disk limits streams end result) }
+    ensures run { IsUnrun D.moment disk limits result ⊎ ((end : Standing D) × RunsOver options.style D.moment S.state K.state disk limits streams end result) }
 {
     match open_store(alloc, disk, limits) {
         Ok(store) => run_store(rt, alloc, store, options, streams, gate),
         Err((notice, disk)) => {
             drop(streams);
-            unrun(alloc, notice, disk)
+            unrun(alloc, notice, 0, disk)
         }
     }
 }
 
 /// Where no session ran.
-fn unrun<D: Disk, S: Drop, K: Drop>(alloc: Global, notice: Notice, disk: D) -> StoreRun<D, S, K>
-    ensures { result ≡ record { notice = notice; history = []; sessions = []; free_pages = 0; disk = disk } }
+fn unrun<D: Disk, S: Drop, K: Drop>(
+    alloc: Global,
+    notice: Notice,
+    free_pages: u64,
+    disk: D,
+) -> StoreRun<D, S, K>
+    ensures { result ≡ record { notice = notice; history = []; sessions = []; free_pages = free_pages; disk = disk } }
 {
     StoreRun {
         notice,
         history: List::new(alloc),
         sessions: List::new(alloc),
-        free_pages: 0,
+        free_pages,
         disk,
     }
 }
@@ -94,9 +99,11 @@ fn run_store<
         Err((Memory, store, streams, none)) => {
             drop(streams);
             drop(none);
+            let mut store = store;
+            let free_pages = u64::from(store.free_pages());
             let (disk, entries) = store.close();
             let_go_entries(entries);
-            unrun(alloc, Notice::Memory, disk)
+            unrun(alloc, Notice::Memory, free_pages, disk)
         }
     }
 }

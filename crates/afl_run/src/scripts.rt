@@ -1,5 +1,6 @@
 //! Sessions over a device.
 ghost use Rattle.std.specs.Prelude.{◌≡◌, ◌≢◌, ◌≤◌, All, Some, length};
+ghost use Rattle.page_chain.specs.Puts.{OnlySyncs};
 ghost use Rattle.run_opening.specs.Names.{HaveOwnNames, stream_names};
 ghost use Rattle.run_opening.specs.Notice.{status_of};
 ghost use Rattle.afl_run.specs.Run.{RunsScripts};
@@ -7,7 +8,7 @@ ghost use Rattle.afl_run.specs.Inner.Streams.{IsAsBegun, RunsOn};
 
 use crate::over::run_over;
 use crate::report::{Report, unrun};
-use afl_outside::{Gate, Shelf};
+use afl_outside::{Disk, Gate, Shelf};
 use command_words::Arg;
 use run_opening::{Limits, StoreRun, open_device, open_streams, status};
 use session_threads::Options;
@@ -68,8 +69,18 @@ fn run_on<F: Shelf, R: Threads + Wait + Sync, G: Gate>(
             let run = run_over(rt, alloc, disk, limits, options, streams, gate);
             report_of(run, shelf)
         }
-        Err(notice) => unrun(alloc, notice, Some(disk), shelf),
+        Err(notice) => {
+            is_unmoved(&disk);
+            unrun(alloc, notice, Some(disk), shelf)
+        }
     }
+}
+
+/// A disk that is left alone is one that was only read.
+fn is_unmoved<D: Disk>(disk: &D)
+    ensures { OnlySyncs (D.moment disk.now) (D.moment disk.now) }
+{
+    let _disk = disk;
 }
 
 fn report_of<F: Shelf>(run: StoreRun<F::Device, F::S, F::K>, shelf: F) -> Report<F>

@@ -5,6 +5,7 @@ use Rattle.afl_outside.specs.Source.{SourceState}
 use Rattle.afl_outside.specs.Sink.{SinkState}
 use Rattle.afl_outside.specs.Shelf.{ShelfState}
 use Rattle.event_core.specs.declared.entry.Entry.{Entry}
+use Rattle.page_chain.specs.Puts.{OnlySyncs}
 use Rattle.store_state.specs.Standings.{Standing}
 use Rattle.run_opening.specs.Names.{Word, stream_names}
 use Rattle.run_opening.specs.Opened.{HandsOut, LeavesUnasked, StopsAt}
@@ -12,7 +13,7 @@ use Rattle.run_opening.specs.declared.reports.reports.SessionReport.{SessionRepo
 use Rattle.run_opening.specs.declared.reports.notices.Notice.{Notice}
 use Rattle.session_threads.specs.Style.{Style}
 use Rattle.afl_run.specs.OneHistory.{IsOneHistory}
-use Rattle.afl_run.specs.Run.{AreOfScripts, BeganFrom, HandsOutStreams, IsOfStore, TellsSessions, TellsUnrun, state_in}
+use Rattle.afl_run.specs.Run.{AreOfScripts, BeganFrom, CountsPages, HandsOutStreams, IsOfStore, TellsSessions, TellsUnrun, state_in}
 
 -- a disk of whose calls none failed yet, and that reads as it began
 pub record IsAsBegun (disk : DiskState) : Type 0 where
@@ -34,7 +35,9 @@ module _ {D S K : Type 0} (style : Style) (moment : D → Moment) (source_state 
     pub first : sessions ≡ [] → StopsAt source_state sink_state scripts old new notice
     pub unwritten : sessions ≡ [] → IfSome device (λ later. (moment later).state.seen ≡ (moment disk).state.seen)
     -- of the device only what happened to it is told here
-    pub none : sessions ≡ [] → (history ≡ []) × (free ≡ 0) × ((asked : Word) → TellsUnrun notice asked scripts (state_in moment device) old new)
+    pub none : sessions ≡ [] → (history ≡ []) × CountsPages (BeganFrom moment pages limit device) notice free
+        × ((asked : Word) → TellsUnrun notice asked scripts (state_in moment device) old new)
     pub told : TellsSessions notice sessions
     pub one : sessions ≢ [] → (store : Standing D) × IsOneHistory style moment source_state sink_state sessions notice history free store
-        × BeganFrom moment pages limit device store
+        × BeganFrom moment pages limit device store × OnlySyncs (moment disk) (moment store.opened.disk)
+    pub untouched : sessions ≡ [] → IfSome device (λ later. OnlySyncs (moment disk) (moment later))

@@ -1,6 +1,7 @@
 use Rattle.std.proofs.Common.{◌≡◌, ◌∙◌, ◌+◌, ◌≤◌, ap, arith, inl, inr, length, refl, subst}
 use Rattle.run_opening.specs.Starts.{start_of}
 use Rattle.session_threads.specs.Sessions.{AreOfSessions}
+use Rattle.store_ledger.specs.Ledger.{unused_pages}
 use Rattle.store_state.specs.At.{standing}
 use Rattle.store_state.specs.Events.{events}
 use Rattle.store_state.specs.declared.state.parts.StoreParts.{StoreParts}
@@ -28,5 +29,6 @@ returns-in-Ok g c =
 pub returns-in-Err : goal.returns-in-Err
 returns-in-Err g c =
     let moment = g.D.Disk.moment in
-    inl (unrun_as c.args.options.style moment g.S.Source.state g.K.Sink.state (standing moment c.args.store) _ _ c.unrun.result c.unrun.ensures refl
-    (c.close-disk.ensures.disk ∙ ap (λ (parts : StoreParts g.row.D.Denot). parts.file.disk) c.in-Err.ensures.err.0))
+    inl (unrun_as c.args.options.style moment g.S.Source.state g.K.Sink.state (standing moment c.args.store) _ _ _ c.unrun.result c.unrun.ensures refl
+    (c.close-disk.ensures.disk ∙ ap (λ (parts : StoreParts g.row.D.Denot). parts.file.disk) (c.free_pages.ensures.same ∙ c.in-Err.ensures.err.0))
+    (c.from-free_pages.ensures ∙ c.free_pages.ensures.count ∙ ap (λ (parts : StoreParts g.row.D.Denot). length (unused_pages parts.ledger)) c.in-Err.ensures.err.0))
