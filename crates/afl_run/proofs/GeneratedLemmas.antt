@@ -8,7 +8,6 @@ use Rattle.afl_outside.specs.InMemory.{Reading, sure_source_state, unread}
 use Rattle.afl_outside.specs.Inner.Records.{SureBytes, sure_disk_moment}
 use Rattle.afl_lexer.specs.Inner.Standing.{StandsAfter}
 use Rattle.run_opening.specs.Starts.{start_of}
-use Rattle.run_opening.specs.Began.{IsOpenedFrom}
 use Rattle.run_opening.specs.declared.stores.closing.StoreRun.{StoreRun}
 use Rattle.run_opening.specs.Names.{standard}
 use Rattle.run_opening.specs.Opened.{FailsFor}
@@ -24,10 +23,11 @@ use Rattle.store_state.specs.Standings.{Standing}
 use Rattle.session_threads.specs.Sessions.{IsSessionOf}
 use Rattle.afl_run.specs.Generate.{IsGenerated, RunsGenerate, listed}
 use Rattle.afl_run.specs.OneHistory.{IsOneHistory}
-use Rattle.afl_run.specs.Run.{IsOfAnswers, plain}
+use Rattle.afl_run.specs.Run.{HaveNoFaults, IsOfAnswers, plain}
 use Rattle.afl_run.specs.Inner.Making.{IsEmpty}
 use Rattle.afl_run.specs.Inner.Over.{IsUnrun, RunsOver}
-use Rattle.afl_run.proofs.StandardLemmas.{IsOfDisk, answers_all, began_empty, none_there, never_fails, only_memory}
+use Rattle.afl_run.proofs.CompleteLemmas.{none_there}
+use Rattle.afl_run.proofs.StandardLemmas.{IsOfDisk, answers_all, began_empty, empty_began, empty_counts, never_fails, only_memory}
 use Rattle.afl_run.proofs.StreamsLemmas.{AreFresh, one_history}
 
 -- the last of at most one
@@ -66,7 +66,7 @@ module _ {K : Type 0} (sink_state : K → SinkState) (old now : ShelfState) (oth
     opened = tt;
     others = others;
     handed = record { replies = 0; handed = λ fits. omega (arith, handed); most = omega arith; reported = inl refl };
-    none = λ is. (refl, refl, fails);
+    none = λ is. (refl, inl refl, fails);
     told = λ ran. absurd (ran (refl, refl));
     disk = λ is. unopened_otherwise told (old.replies standard) old now fails (subst (λ (n : Notice). IsOfDisk n) (sym is) tt);
     damaged = λ page is. unopened_otherwise told (old.replies standard) old now fails (subst (λ (n : Notice). IsOfDisk n) (sym is) tt);
@@ -86,7 +86,7 @@ module _ {K : Type 0} (sink_state : K → SinkState) (old now : ShelfState) (oth
     fresh (suc k) other within = absurd (omega (arith, within))
 
     -- no session ran
-    unrun_of : IsUnrun sure_disk_moment disk run → (g : Option (SessionReport Reading K)) → run.sessions ≡ listed g
+    unrun_of : IsUnrun sure_disk_moment disk limits run → (g : Option (SessionReport Reading K)) → run.sessions ≡ listed g
         → RunsGenerate sure_disk_moment sure_source_state sink_state old now run.notice run.history g run.free_pages script
     unrun_of unrun (Some report) is = absurd (let none : report ∷ [] ≡ [] = sym is ∙ unrun.none in cc)
     unrun_of unrun None is = let memory = only_memory run.notice disk run.disk empty unrun.cause in record {
@@ -98,7 +98,7 @@ module _ {K : Type 0} (sink_state : K → SinkState) (old now : ShelfState) (oth
         most = omega arith;
         reported = inl refl;
       };
-      none = λ is. (unrun.nothing, unrun.no_pages, inl memory);
+      none = λ is. (unrun.nothing, empty_counts disk limits run empty history_given pages_given unrun.pages, inl memory);
       told = λ ran. absurd (ran (refl, refl));
       disk = λ is. absurd (cc (memory, is));
       damaged = λ page is. absurd (cc (memory, is));
@@ -107,11 +107,6 @@ module _ {K : Type 0} (sink_state : K → SinkState) (old now : ShelfState) (oth
     }
 
     module _ (end : Standing SureBytes) (over : RunsOver plain sure_disk_moment sure_source_state sink_state disk limits (own ∷ []) None end run None) where
-      -- what the store was opened from
-      found_over : IfSome (sure_disk_moment end.opened.disk).state.seen (λ file. IsOpenedFrom 65536 file (start_of end))
-      found_over = subst (λ (n : ℕ). IfSome (sure_disk_moment end.opened.disk).state.seen (λ file. IsOpenedFrom n file (start_of end))) pages_given
-          (subst (λ (o : Option (List ℕ)). IfSome o (λ file. IsOpenedFrom limits.pages file (start_of end))) (sym over.opened.synced.seen) over.opened.opened)
-
       -- the session's streams are those that were opened
       generated_of : (report : SessionReport Reading K) → run.sessions ≡ report ∷ []
           → IsGenerated old script (sure_source_state report.source) (sink_state report.sink)
@@ -152,17 +147,11 @@ module _ {K : Type 0} (sink_state : K → SinkState) (old now : ShelfState) (oth
             disk = λ fault. never_fails end one.causes fault;
             damaged = λ page fault. one.causes.damaged page fault [] database;
             complete = λ reply calm. answers_all run.sessions run.notice end one.causes [] database
-                (subst (λ (rs : List (SessionReport Reading K)). All (λ r. (Rose 0 (sure_source_state r.source).faults → ⊥) × (Rose 0 (sink_state r.sink).faults → ⊥)) rs) (sym is)
-                (calm_all report calm)) over.runs.told;
+                (subst (λ (rs : List (SessionReport Reading K)). HaveNoFaults sure_source_state sink_state rs) (sym is) (calm_all report calm)) over.runs.told;
             one = λ ran. (
               end,
               subst (λ (rs : List (SessionReport Reading K)). IsOneHistory plain sure_disk_moment sure_source_state sink_state rs None run.notice run.history run.free_pages end) is one,
-              record {
-                database = database;
-                found = found_over;
-                entries = over.opened.entries ∙ history_given;
-                page_limit = over.opened.pages ∙ pages_given;
-              },
+              empty_began disk limits end over.opened empty history_given pages_given,
             );
           }
         where
@@ -170,18 +159,18 @@ module _ {K : Type 0} (sink_state : K → SinkState) (old now : ShelfState) (oth
           still report rose = let up : risen 0 ≤ 0 = rose in omega (arith, up)
 
           calm_all : (report : SessionReport Reading K) → (Rose 0 (sink_state report.sink).faults → ⊥)
-              → All (λ r. (Rose 0 (sure_source_state r.source).faults → ⊥) × (Rose 0 (sink_state r.sink).faults → ⊥)) (report ∷ [])
+              → HaveNoFaults sure_source_state sink_state (report ∷ [])
           calm_all report calm zero d within = (still report, calm)
           calm_all report calm (suc k) d within = absurd (omega (arith, within))
 
-    pub generates_ran : IsUnrun sure_disk_moment disk run ⊎ ((end : Standing SureBytes) × RunsOver plain sure_disk_moment sure_source_state sink_state disk limits (own ∷ []) None end run None)
+    pub generates_ran : IsUnrun sure_disk_moment disk limits run ⊎ ((end : Standing SureBytes) × RunsOver plain sure_disk_moment sure_source_state sink_state disk limits (own ∷ []) None end run None)
         → (g : Option (SessionReport Reading K)) → run.sessions ≡ listed g
         → RunsGenerate sure_disk_moment sure_source_state sink_state old now run.notice run.history g run.free_pages script
     generates_ran ran g is = elim ran [ inl unrun ↦ unrun_of unrun g is | inr over ↦ over_of over.0 over.1 g is ]
 
 -- at most one session ran
 pub few_sessions : {K : Type 0} (sink_state : K → SinkState) (disk : SureBytes) (limits : Limits) (own : Streams Reading K) (run : StoreRun SureBytes Reading K)
-    → IsUnrun sure_disk_moment disk run ⊎ ((end : Standing SureBytes) × RunsOver plain sure_disk_moment sure_source_state sink_state disk limits (own ∷ []) None end run None)
+    → IsUnrun sure_disk_moment disk limits run ⊎ ((end : Standing SureBytes) × RunsOver plain sure_disk_moment sure_source_state sink_state disk limits (own ∷ []) None end run None)
     → length run.sessions ≤ 1
 few_sessions sink_state disk limits own run ran = elim ran [
   | inl unrun ↦ let none : length run.sessions ≡ 0 = ap length unrun.none in omega (arith, none)

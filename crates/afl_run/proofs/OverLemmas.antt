@@ -12,6 +12,7 @@ use Rattle.run_opening.specs.Starts.{start_of}
 use Rattle.page_chain.proofs.RunLemmas.{goes}
 use Rattle.page_chain.specs.Puts.{OnlySyncs}
 use Rattle.turn_lock.specs.Owners.{AreOwnedBelow, ExtendsByOthers, is_owned_below, none_of}
+use Rattle.store_ledger.specs.Ledger.{unused_pages}
 use Rattle.store_opening.specs.declared.opening.opening.Limits.{Limits}
 use Rattle.store_state.specs.declared.state.event.Event.{Event}
 use Rattle.store_state.specs.Events.{events, owner_of}
@@ -112,14 +113,15 @@ module _ {D S K : Type 0} (style : Style) (moment : D → Moment) (source_state 
       still = backup_later start (length streams) sink backup (events shared) closed.more (events end) dumped closed.reap closed.grown
 
   -- no session ran over a store that was opened
-  lacks_memory : (disk : D) (store : Standing D) (run : StoreRun D S K) → (moment store.disk).state.seen ≡ (moment disk).state.seen → LacksMemory store run
-      → IsUnrun moment disk run
-  lacks_memory disk store run seen lacks = record {
+  lacks_memory : (disk : D) (limits : Limits) (store : Standing D) (run : StoreRun D S K) → BeganOver moment disk limits (start_of store) → store.ledger.entries ≡ []
+      → OnlySyncs (moment disk) (moment store.disk) → LacksMemory store run → IsUnrun moment disk limits run
+  lacks_memory disk limits store run began entries reads lacks = record {
     none = lacks.none;
     nothing = lacks.nothing;
-    no_pages = lacks.no_pages;
+    pages = inr (record { memory = lacks.memory; store = store; began = began; entries = entries; pages = lacks.pages; is_disk = lacks.is_disk });
     cause = subst (λ (n : Notice). TellsUnopened n (moment disk).state (moment run.disk).state) (sym lacks.memory) tt;
-    unwritten = ap (λ (d : D). (moment d).state.seen) lacks.is_disk ∙ seen;
+    unwritten = ap (λ (d : D). (moment d).state.seen) lacks.is_disk ∙ reads.seen;
+    syncs = subst (λ (d : D). OnlySyncs (moment disk) (moment d)) (sym lacks.is_disk) reads;
   }
 
   pub runs_over : (disk : D) (limits : Limits) (streams : List (Streams S K)) (sink : Option K) (store end : Standing D) (run : StoreRun D S K)
@@ -132,11 +134,11 @@ module _ {D S K : Type 0} (style : Style) (moment : D → Moment) (source_state 
   }
 
   pub over : (disk : D) (limits : Limits) (streams : List (Streams S K)) (sink : Option K) (store : Standing D) (run : StoreRun D S K) (backup : Option (BackupReport K))
-      → BeganOver moment disk limits (start_of store) → OnlySyncs (moment disk) (moment store.disk)
+      → BeganOver moment disk limits (start_of store) → store.ledger.entries ≡ [] → OnlySyncs (moment disk) (moment store.disk)
       → (LacksMemory store run × (backup ≡ None)) ⊎ ((end : Standing D) × RunsTo style moment source_state sink_state (start_of store) streams sink end run backup)
-      → (IsUnrun moment disk run × (backup ≡ None)) ⊎ ((end : Standing D) × RunsOver style moment source_state sink_state disk limits streams sink end run backup)
-  over disk limits streams sink store run backup began reads ran = elim ran [
-    | inl lacks ↦ inl (lacks_memory disk store run reads.seen lacks.0, lacks.1)
+      → (IsUnrun moment disk limits run × (backup ≡ None)) ⊎ ((end : Standing D) × RunsOver style moment source_state sink_state disk limits streams sink end run backup)
+  over disk limits streams sink store run backup began entries reads ran = elim ran [
+    | inl lacks ↦ inl (lacks_memory disk limits store run began entries reads lacks.0, lacks.1)
     | inr runs ↦ inr (runs.0, runs_over disk limits streams sink store runs.0 run backup began runs.1)
   ]
 
@@ -155,29 +157,31 @@ module _ {D S K : Type 0} (style : Style) (moment : D → Moment) (source_state 
   ]
 
   -- what is told where no session ran
-  pub unrun_as : (store : Standing D) (disk : D) (notice : Notice) (run : StoreRun D S K)
-      → run ≡ record { notice = notice; history = []; sessions = []; free_pages = 0; disk = disk } → notice ≡ Memory → disk ≡ store.disk → LacksMemory store run
-  unrun_as store disk notice run is memory same = record {
+  pub unrun_as : (store : Standing D) (disk : D) (notice : Notice) (free : ℕ) (run : StoreRun D S K)
+      → run ≡ record { notice = notice; history = []; sessions = []; free_pages = free; disk = disk } → notice ≡ Memory → disk ≡ store.disk
+      → free ≡ length (unused_pages store.ledger) → LacksMemory store run
+  unrun_as store disk notice free run is memory same count = record {
     memory = ap (λ (r : StoreRun D S K). r.notice) is ∙ memory;
     none = ap (λ (r : StoreRun D S K). r.sessions) is;
     nothing = ap (λ (r : StoreRun D S K). r.history) is;
-    no_pages = ap (λ (r : StoreRun D S K). r.free_pages) is;
+    pages = ap (λ (r : StoreRun D S K). r.free_pages) is ∙ count;
     is_disk = ap (λ (r : StoreRun D S K). r.disk) is ∙ same;
   }
 
-  pub unopened_as : (old disk : D) (notice : Notice) (run : StoreRun D S K) → run ≡ record { notice = notice; history = []; sessions = []; free_pages = 0; disk = disk }
-      → TellsUnopened notice (moment old).state (moment disk).state → OnlySyncs (moment old) (moment disk) → IsUnrun moment old run
-  unopened_as old disk notice run is cause reads = record {
+  pub unopened_as : (old disk : D) (limits : Limits) (notice : Notice) (run : StoreRun D S K) → run ≡ record { notice = notice; history = []; sessions = []; free_pages = 0; disk = disk }
+      → TellsUnopened notice (moment old).state (moment disk).state → OnlySyncs (moment old) (moment disk) → IsUnrun moment old limits run
+  unopened_as old disk limits notice run is cause reads = record {
     none = ap (λ (r : StoreRun D S K). r.sessions) is;
     nothing = ap (λ (r : StoreRun D S K). r.history) is;
-    no_pages = ap (λ (r : StoreRun D S K). r.free_pages) is;
+    pages = inl (ap (λ (r : StoreRun D S K). r.free_pages) is);
     cause = subst (λ (r : StoreRun D S K). TellsUnopened r.notice (moment old).state (moment r.disk).state) (sym is) cause;
     unwritten = ap (λ (r : StoreRun D S K). (moment r.disk).state.seen) is ∙ reads.seen;
+    syncs = subst (λ (r : StoreRun D S K). OnlySyncs (moment old) (moment r.disk)) (sym is) reads;
   }
 
   -- no backup was made where there is no sink for one
   pub without_backup : (disk : D) (limits : Limits) (streams : List (Streams S K)) (run : StoreRun D S K) (backup : Option (BackupReport K))
-      → (IsUnrun moment disk run × (backup ≡ None)) ⊎ ((end : Standing D) × RunsOver style moment source_state sink_state disk limits streams None end run backup)
-      → IsUnrun moment disk run ⊎ ((end : Standing D) × RunsOver style moment source_state sink_state disk limits streams None end run None)
+      → (IsUnrun moment disk limits run × (backup ≡ None)) ⊎ ((end : Standing D) × RunsOver style moment source_state sink_state disk limits streams None end run backup)
+      → IsUnrun moment disk limits run ⊎ ((end : Standing D) × RunsOver style moment source_state sink_state disk limits streams None end run None)
   without_backup disk limits streams run None ran = elim ran [ inl unrun ↦ inl unrun.0 | inr over ↦ inr over ]
   without_backup disk limits streams run (Some report) ran = elim ran [ inl unrun ↦ absurd (let is = unrun.1 in cc) | inr over ↦ absurd over.1.runs.dumped ]

@@ -1,6 +1,6 @@
 -- What a run over an empty database in memory reports.
-use Rattle.std.proofs.Common.{◌≡◌, ◌⊎◌, ℕ, zero, suc, ◌+◌, ◌≤◌, Bool, true, false, IsTrue, List, [], ◌∷◌, length, All, Option, Some, None, IfSome, IsSome, IsSomeAnd, slice_get, inl, inr, refl, sym, ◌∙◌, ap, subst, arith}
-use Rattle.afl_outside.specs.Counts.{Rose, risen}
+use Rattle.std.proofs.Common.{◌≡◌, ◌⊎◌, ℕ, zero, suc, ◌+◌, ◌≤◌, Bool, true, IsTrue, List, [], ◌∷◌, length, Option, Some, None, IfSome, IsSome, IsSomeAnd, slice_get, inl, inr, refl, sym, ◌∙◌, ap, subst, arith}
+use Rattle.afl_outside.specs.Counts.{risen}
 use Rattle.afl_outside.specs.Disk.{DiskGoesOn, Moment, Only}
 use Rattle.afl_outside.specs.Source.{SourceState}
 use Rattle.afl_outside.specs.Sink.{SinkState}
@@ -19,13 +19,14 @@ use Rattle.run_opening.specs.Began.{BeganOver, IsOpenedFrom, TellsUnopened}
 use Rattle.run_opening.specs.declared.stores.closing.StoreRun.{StoreRun}
 use Rattle.run_opening.specs.declared.reports.notices.Notice.{Notice}
 use Rattle.run_opening.specs.declared.reports.notices.Notice.TheVariants as notices
-use Rattle.run_opening.specs.Outcomes.{notice_by as told_by, notice_of}
+use Rattle.run_opening.specs.Outcomes.{notice_of}
 use Rattle.run_opening.specs.declared.reports.reports.SessionReport.{SessionReport}
 use Rattle.run_opening.specs.declared.reports.reports.Streams.{Streams}
 use Rattle.afl_run.specs.OneHistory.{HasCause}
-use Rattle.afl_run.specs.Run.{IsOfAnswers, RunsTry, plain}
+use Rattle.afl_run.specs.Run.{BeganEmpty, CountsPages, HaveNoFaults, IsOfAnswers, RunsTry, plain}
 use Rattle.afl_run.specs.Inner.Making.{IsEmpty, Makes}
-use Rattle.afl_run.specs.Inner.Over.{IsUnrun, RunsOver}
+use Rattle.afl_run.specs.Inner.Over.{IsUnrun, RunsOver, WasShort}
+use Rattle.afl_run.proofs.CompleteLemmas.{answered, none_there}
 use Rattle.afl_run.proofs.StreamsLemmas.{leaves_same, one_history, opened_fresh, reports_opened, zip_length}
 
 -- ---- an empty database in memory
@@ -67,19 +68,30 @@ began_empty moment disk limits end began empty = record {
   stands = made_stands empty.file empty.form;
 }
 
+-- and it was opened from that, within these limits
+pub empty_began : (disk : SureBytes) (limits : Limits) (end : Standing SureBytes) → BeganOver sure_disk_moment disk limits (start_of end) → IsEmpty (sure_disk_moment disk)
+    → limits.history ≡ 1048576 → limits.pages ≡ 65536 → BeganEmpty sure_disk_moment end
+empty_began disk limits end began empty history_given pages_given = record {
+  database = began_empty sure_disk_moment disk limits end began empty;
+  found = subst (λ (n : ℕ). IfSome (sure_disk_moment end.opened.disk).state.seen (λ file. IsOpenedFrom n file (start_of end))) pages_given
+      (subst (λ (o : Option (List ℕ)). IfSome o (λ file. IsOpenedFrom limits.pages file (start_of end))) (sym began.synced.seen) began.opened);
+  entries = began.entries ∙ history_given;
+  page_limit = began.pages ∙ pages_given;
+}
+
+pub empty_counts : {S K : Type 0} (disk : SureBytes) (limits : Limits) (run : StoreRun SureBytes S K) → IsEmpty (sure_disk_moment disk) → limits.history ≡ 1048576
+    → limits.pages ≡ 65536 → (run.free_pages ≡ 0) ⊎ WasShort sure_disk_moment disk limits run → CountsPages (BeganEmpty sure_disk_moment) run.notice run.free_pages
+empty_counts disk limits run empty history_given pages_given pages = elim pages [
+  | inl none ↦ inl none
+  | inr short ↦ inr (short.memory, (short.store, empty_began disk limits short.store short.began empty history_given pages_given, short.entries, short.pages))
+]
+
 -- ---- what is never told
 
 abbrev pub IsOfDisk : Notice → Type 0
 IsOfDisk notices.Disk = Unit {0}
 IsOfDisk (notices.Damaged page) = Unit {0}
 IsOfDisk _ = ⊥
-
--- what is told of sessions
-abbrev IsOfSessions : Notice → Type 0
-IsOfSessions (notices.Usage word) = ⊥
-IsOfSessions (notices.NotDatabase page) = ⊥
-IsOfSessions (notices.NotEmpty count) = ⊥
-IsOfSessions _ = Unit {0}
 
 -- where a stream isn't opened, nothing is told of the disk
 not_opened_otherwise : (told : Notice) (old now : ShelfState) → (told ≡ notices.Memory) ⊎ FailsToOpen (standard ∷ []) told old now → IsOfDisk told → ⊥
@@ -90,10 +102,6 @@ not_opened_otherwise told old now fails is = elim fails [
     | inr stream ↦ absurd (subst (λ (n : Notice). IsOfDisk n) stream.1 is)
   ]
 ]
-
-pub none_there : {A : Type 0} (o : Option A) → IsSome o → o ≡ None → ⊥
-none_there None some is = absurd (cc (some))
-none_there (Some x) some is = absurd (cc (is))
 
 -- a stream of which the shelf tells that it opens it is opened
 told_both : (old now : ShelfState) (script : Word) → IsSome (old.scripts script) → IsSome (old.replies (reply_name script)) → IsUnopened script old now → ⊥
@@ -122,48 +130,11 @@ pub never_fails : {S K : Type 0} {source_state : S → SourceState} {sink_state 
     → HasCause sure_disk_moment source_state sink_state sessions None notice end → notice ≡ notices.Disk → ⊥
 never_fails end causes is = let rose : risen 0 ≤ 0 = causes.disk is in absurd (omega (arith, rose))
 
--- no session broke off whose streams' counts stand still
-calm_at : {S K : Type 0} (source_state : S → SourceState) (sink_state : K → SinkState) (sessions : List (SessionReport S K)) (session : ℕ)
-    → All (λ report. (Rose 0 (source_state report.source).faults → ⊥) × (Rose 0 (sink_state report.sink).faults → ⊥)) sessions
-    → IsSomeAnd (slice_get sessions session) (λ report. Rose 0 (source_state report.source).faults ⊎ Rose 0 (sink_state report.sink).faults) → ⊥
-calm_at source_state sink_state [] session calm broke = absurd broke
-calm_at source_state sink_state (r ∷ rs) zero calm broke =
-    let h = calm zero r (omega arith) in elim broke [ inl source ↦ h.0 source | inr sink ↦ h.1 sink ]
-calm_at source_state sink_state (r ∷ rs) (suc n) calm broke = calm_at source_state sink_state rs n (λ k d lt. calm (suc k) d (omega (arith, lt))) broke
-
-told_of_sessions : (want fault : Bool) (page session : Option ℕ) (refused : Bool) → IsOfSessions (told_by want fault page session refused)
-told_of_sessions true fault page session refused = tt
-told_of_sessions false true page session refused = tt
-told_of_sessions false false (Some at) session refused = tt
-told_of_sessions false false None (Some at) refused = tt
-told_of_sessions false false None None true = tt
-told_of_sessions false false None None false = tt
-
 pub answers_all : {S K : Type 0} {source_state : S → SourceState} {sink_state : K → SinkState} (sessions : List (SessionReport S K)) (notice : Notice) (end : Standing SureBytes)
-    → HasCause sure_disk_moment source_state sink_state sessions None notice end → (db : Database) → BeganAs (sure_disk_moment end.opened.disk).state db
-    → All (λ report. (Rose 0 (source_state report.source).faults → ⊥) × (Rose 0 (sink_state report.sink).faults → ⊥)) sessions
-    → (notice ≡ notices.Memory) ⊎ (notice ≡ notice_of sessions None) → IsOfAnswers notice
-answers_all {source_state = source_state} {sink_state = sink_state} sessions notice end causes db database calm told = by notice refl (elim told [
-  | inl memory ↦ subst (λ (n : Notice). IsOfSessions n) (sym memory) tt
-  | inr after ↦ subst (λ (n : Notice). IsOfSessions n) (sym after) (told_of_sessions _ _ _ _ _)
-])
-  where
-    by : (n : Notice) → notice ≡ n → IsOfSessions n → IsOfAnswers n
-    by notices.Done is among = tt
-    by notices.Refused is among = tt
-    by notices.Memory is among = tt
-    by notices.Disk is among = absurd (never_fails end causes is)
-    by (notices.Damaged page) is among = absurd (causes.damaged page is db database)
-    by (notices.Stream session) is among = absurd (elim (causes.stream session is) [
-      | inl own ↦ calm_at source_state sink_state sessions session calm own
-      | inr backup ↦ absurd backup.1
-    ])
-    by (notices.Usage word) is among = absurd among
-    by (notices.NotDatabase page) is among = absurd among
-    by (notices.NotEmpty count) is among = absurd among
-    by (notices.NotBackup at) is among = absurd among
-    by (notices.WrongOverlap page) is among = absurd among
-    by (notices.Full needed free) is among = absurd among
+    → HasCause sure_disk_moment source_state sink_state sessions notice end → (db : Database) → BeganAs (sure_disk_moment end.opened.disk).state db
+    → HaveNoFaults source_state sink_state sessions → (notice ≡ notices.Memory) ⊎ (notice ≡ notice_of sessions None) → IsOfAnswers notice
+answers_all sessions notice end causes db database calm told =
+    answered sessions notice end causes (never_fails end causes) (λ page is. causes.damaged page is db database) calm told
 
 module _ {S K : Type 0} (source_state : S → SourceState) (sink_state : K → SinkState) (old now : ShelfState) where
   pub tries_nothing : (told : Notice) → LeavesUnasked (stream_names (standard ∷ [])) old now → HandsOutSome 1 old now
@@ -182,7 +153,7 @@ module _ {S K : Type 0} (source_state : S → SourceState) (sink_state : K → S
       most = some.1;
       reported = inl refl;
     };
-    none = λ is. (refl, refl, fails);
+    none = λ is. (refl, inl refl, fails);
     told = λ ran. absurd (ran (refl, refl));
     one = λ ran. absurd (ran refl);
   }
@@ -190,13 +161,7 @@ module _ {S K : Type 0} (source_state : S → SourceState) (sink_state : K → S
   module _ (disk : SureBytes) (limits : Limits) (streams : List (Streams S K)) (run : StoreRun SureBytes S K) (empty : IsEmpty (sure_disk_moment disk))
       (opened : AreOpenedFor source_state sink_state old (standard ∷ []) streams) (others : LeavesUnasked (stream_names (standard ∷ [])) old now) (hands : HandsOut 1 old now)
       (history_given : limits.history ≡ 1048576) (pages_given : limits.pages ≡ 65536) where
-    -- what the store was opened from
-    found_over : (end : Standing SureBytes) → BeganOver sure_disk_moment disk limits (start_of end)
-        → IfSome (sure_disk_moment end.opened.disk).state.seen (λ file. IsOpenedFrom 65536 file (start_of end))
-    found_over end began = subst (λ (n : ℕ). IfSome (sure_disk_moment end.opened.disk).state.seen (λ file. IsOpenedFrom n file (start_of end))) pages_given
-        (subst (λ (o : Option (List ℕ)). IfSome o (λ file. IsOpenedFrom limits.pages file (start_of end))) (sym began.synced.seen) began.opened)
-
-    tries_unrun : IsUnrun sure_disk_moment disk run → RunsTry sure_disk_moment source_state sink_state old now run.notice run.history run.sessions run.free_pages
+    tries_unrun : IsUnrun sure_disk_moment disk limits run → RunsTry sure_disk_moment source_state sink_state old now run.notice run.history run.sessions run.free_pages
     tries_unrun unrun = let memory = only_memory run.notice disk run.disk empty unrun.cause in record {
       opened = inl unrun.none;
       first = λ is. subst (λ (n : Notice). StopsAt source_state sink_state (standard ∷ []) old now n) (sym memory) tt;
@@ -210,7 +175,7 @@ module _ {S K : Type 0} (source_state : S → SourceState) (sink_state : K → S
         most = omega arith;
         reported = inl (ap length unrun.none);
       };
-      none = λ is. (unrun.nothing, unrun.no_pages, inl memory);
+      none = λ is. (unrun.nothing, empty_counts disk limits run empty history_given pages_given unrun.pages, inl memory);
       told = λ ran. absurd (ran (unrun.none, refl));
       one = λ ran. absurd (ran unrun.none);
     }
@@ -237,19 +202,10 @@ module _ {S K : Type 0} (source_state : S → SourceState) (sink_state : K → S
           };
           none = λ is. let empty : length run.sessions ≡ 0 = ap length is in absurd (omega (arith, many, all, empty));
           told = λ ran. over.runs.told;
-          one = λ ran. (
-            end,
-            one,
-            record {
-              database = database;
-              found = found_over end over.opened;
-              entries = over.opened.entries ∙ history_given;
-              page_limit = over.opened.pages ∙ pages_given;
-            },
-          );
+          one = λ ran. (end, one, empty_began disk limits end over.opened empty history_given pages_given);
         }
 
-    pub tries_ran : IsUnrun sure_disk_moment disk run ⊎ ((end : Standing SureBytes) × RunsOver plain sure_disk_moment source_state sink_state disk limits streams None end run None)
+    pub tries_ran : IsUnrun sure_disk_moment disk limits run ⊎ ((end : Standing SureBytes) × RunsOver plain sure_disk_moment source_state sink_state disk limits streams None end run None)
         → RunsTry sure_disk_moment source_state sink_state old now run.notice run.history run.sessions run.free_pages
     tries_ran ran = elim ran [ inl unrun ↦ tries_unrun unrun | inr over ↦ tries_over over.0 over.1 ]
 

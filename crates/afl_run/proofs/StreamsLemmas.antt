@@ -18,7 +18,7 @@ use Rattle.store_state.specs.Events.{events, owner_of}
 use Rattle.run_opening.specs.Names.{Word, reply_name, stream_names}
 use Rattle.run_opening.specs.Opened.{AreOpenedFor, FailsToOpen, FailsToOpenDevice, HandsOut, HandsOutSome, IsOpenedFor, IsUnopened, LeavesUnasked, StopsAt}
 use Rattle.run_opening.proofs.OpeningLemmas.{back_all, front_all}
-use Rattle.run_opening.specs.Began.{IsOpenedFrom, TellsUnopened}
+use Rattle.run_opening.specs.Began.{BeganOver, IsOpenedFrom, TellsUnopened}
 use Rattle.run_opening.specs.declared.stores.closing.StoreRun.{StoreRun}
 use Rattle.run_opening.proofs.OutcomeLemmas.{is_stream}
 use Rattle.run_opening.specs.Outcomes.{IsFirst}
@@ -34,10 +34,12 @@ use Rattle.afl_run.specs.Printed.{IsOpenedAs, Prints}
 use Rattle.session_threads.proofs.InHistories.{sessions_stay}
 use Rattle.session_threads.specs.Histories.{IsMarkedIn}
 use Rattle.store_state.specs.declared.state.event.Event.{Event}
-use Rattle.afl_run.specs.Run.{AreOfScripts, BeganFrom, HandsOutStreams, IsOfStore, RunsScripts, TellsUnrun}
-use Rattle.afl_run.specs.Inner.Over.{IsUnrun, RunsOver}
+use Rattle.afl_run.specs.Run.{AreOfScripts, BeganFrom, CountsPages, HandsOutStreams, IsOfStore, RunsScripts, TellsUnrun, WasOnlyRead}
+use Rattle.afl_run.specs.Inner.Over.{IsUnrun, RunsOver, WasShort}
 use Rattle.afl_run.specs.Inner.Streams.{IsAsBegun, RunsOn}
 use Rattle.page_chain.proofs.RunLemmas.{stands}
+use Rattle.page_chain.specs.Puts.{OnlySyncs}
+use Rattle.afl_run.proofs.CompleteLemmas.{complete_from}
 use Rattle.afl_run.proofs.MakingLemmas.{opened_as as is_opened}
 use Rattle.afl_run.proofs.Reporting.{opened_as, prints, zip_at, zip_places}
 
@@ -181,6 +183,7 @@ module _ {D S K : Type 0} (style : Style) (moment : D → Moment) (source_state 
         (as_many_in_all moment sink_state (start_of end) given backup (events end) (length run.sessions) (length streams) over.runs.count over.runs.dumped) over.runs.others;
     pages = over.runs.ends.pages;
     reaped = over.runs.ends.reaped;
+    doubt = over.runs.ends.doubt;
     cells = over.runs.ends.cells;
     payloads = over.runs.ends.payloads;
   }
@@ -239,8 +242,10 @@ module _ {D S K : Type 0} (style : Style) (moment : D → Moment) (source_state 
     (limits : Limits) (others : LeavesUnasked (stream_names scripts) old now) where
   pub on_unopened : (told : Notice) → HandsOutSome (length scripts) old now → (told ≡ notices.Memory) ⊎ FailsToOpen scripts told old now
       → StopsAt source_state sink_state scripts old now told
+      → OnlySyncs (moment disk) (moment disk)
       → RunsOn style moment source_state sink_state old now told [] [] 0 disk scripts limits.pages limits.history (Some disk)
-  on_unopened told some fails stops = record {
+  on_unopened told some fails stops still = record {
+    untouched = λ is. still;
     opened = inl refl;
     all = λ is. absurd (not_of_store told scripts old now fails is);
     first = λ is. stops;
@@ -253,7 +258,7 @@ module _ {D S K : Type 0} (style : Style) (moment : D → Moment) (source_state 
       most = some.1;
       reported = inl refl;
     };
-    none = λ is. (refl, refl, λ asked. tells_stream told asked scripts (moment disk).state old now fails);
+    none = λ is. (refl, inl refl, λ asked. tells_stream told asked scripts (moment disk).state old now fails);
     told = λ ran. absurd (ran refl);
     one = λ ran. absurd (ran refl);
   }
@@ -268,17 +273,36 @@ module _ {D S K : Type 0} (style : Style) (moment : D → Moment) (source_state 
       reported = reported;
     }
 
-    on_unrun : IsUnrun moment disk run
+    began_from : (end : Standing D) → BeganOver moment disk limits (start_of end) → run.disk ≡ end.disk → BeganFrom moment limits.pages limits.history (Some run.disk) end
+    began_from end opened is_disk =
+        let goes_end : DiskGoesOn (moment disk).state (moment end.disk).state = subst (λ (d : D). DiskGoesOn (moment disk).state (moment d).state) is_disk goes in
+        record {
+          is_device = ap Some is_disk;
+          first = opened.synced.seen ∙ begins.seen ∙ sym goes_end.first;
+          honest = opened.synced.same.honest ∙ sym goes_end.honest;
+          entries = opened.entries;
+          page_limit = opened.pages;
+          found = subst (λ (o : Option (List ℕ)). IfSome o (λ file. IsOpenedFrom limits.pages file (start_of end))) (begins.seen ∙ sym goes_end.first) opened.opened;
+        }
+
+    counts_pages : (run.free_pages ≡ 0) ⊎ WasShort moment disk limits run → CountsPages (BeganFrom moment limits.pages limits.history (Some run.disk)) run.notice run.free_pages
+    counts_pages pages = elim pages [
+      | inl none ↦ inl none
+      | inr short ↦ inr (short.memory, (short.store, began_from short.store short.began short.is_disk, short.entries, short.pages))
+    ]
+
+    on_unrun : IsUnrun moment disk limits run
         → RunsOn style moment source_state sink_state old now run.notice run.history run.sessions run.free_pages disk scripts limits.pages limits.history (Some run.disk)
     on_unrun unrun = record {
       opened = inl unrun.none;
       all = λ is. hands;
       first = λ is. stops_nowhere source_state sink_state run.notice scripts (moment disk).state (moment run.disk).state old now unrun.cause;
       unwritten = λ is. unrun.unwritten;
+      untouched = λ is. unrun.syncs;
       goes_on = goes;
       others = others;
       handed = all_replies (inl (ap length unrun.none));
-      none = λ is. (unrun.nothing, unrun.no_pages, λ asked. tells_unopened run.notice asked scripts (moment disk).state (moment run.disk).state old now begins goes unrun.cause);
+      none = λ is. (unrun.nothing, counts_pages unrun.pages, λ asked. tells_unopened run.notice asked scripts (moment disk).state (moment run.disk).state old now begins goes unrun.cause);
       told = λ ran. absurd (ran unrun.none);
       one = λ ran. absurd (ran unrun.none);
     }
@@ -290,19 +314,6 @@ module _ {D S K : Type 0} (style : Style) (moment : D → Moment) (source_state 
       some_ran : run.sessions ≡ [] → ⊥
       some_ran is = let many = as_many in let empty : length run.sessions ≡ 0 = ap length is in absurd (omega (arith, many, empty, some))
 
-      goes_end : DiskGoesOn (moment disk).state (moment end.disk).state
-      goes_end = subst (λ (d : D). DiskGoesOn (moment disk).state (moment d).state) over.runs.ends.is_disk goes
-
-      began_from : BeganFrom moment limits.pages limits.history (Some run.disk) end
-      began_from = record {
-        is_device = ap Some over.runs.ends.is_disk;
-        first = over.opened.synced.seen ∙ begins.seen ∙ sym goes_end.first;
-        honest = over.opened.synced.same.honest ∙ sym goes_end.honest;
-        entries = over.opened.entries;
-        page_limit = over.opened.pages;
-        found = subst (λ (o : Option (List ℕ)). IfSome o (λ file. IsOpenedFrom limits.pages file (start_of end))) (begins.seen ∙ sym goes_end.first) over.opened.opened;
-      }
-
       on_over : RunsOn style moment source_state sink_state old now run.notice run.history run.sessions run.free_pages disk scripts limits.pages limits.history (Some run.disk)
       on_over = record {
         opened = inr (reports_opened style moment source_state sink_state old scripts streams opened (start_of end) run.sessions end over.runs.count over.runs.each);
@@ -312,12 +323,13 @@ module _ {D S K : Type 0} (style : Style) (moment : D → Moment) (source_state 
         all = λ is. hands;
         first = λ is. absurd (some_ran is);
         unwritten = λ is. absurd (some_ran is);
+        untouched = λ is. absurd (some_ran is);
         none = λ is. absurd (some_ran is);
         told = λ ran. over.runs.told;
-        one = λ ran. (end, one_history style moment source_state sink_state streams (opened_fresh style moment source_state sink_state old scripts streams opened) disk limits run end over, began_from);
+        one = λ ran. (end, one_history style moment source_state sink_state streams (opened_fresh style moment source_state sink_state old scripts streams opened) disk limits run end over, began_from end over.opened over.runs.ends.is_disk, over.opened.synced);
       }
 
-    pub on_ran : IsUnrun moment disk run ⊎ ((end : Standing D) × RunsOver style moment source_state sink_state disk limits streams end run)
+    pub on_ran : IsUnrun moment disk limits run ⊎ ((end : Standing D) × RunsOver style moment source_state sink_state disk limits streams end run)
         → RunsOn style moment source_state sink_state old now run.notice run.history run.sessions run.free_pages disk scripts limits.pages limits.history (Some run.disk)
     on_ran ran = elim ran [ inl unrun ↦ on_unrun unrun | inr over ↦ on_over over.0 over.1 ]
 
@@ -431,10 +443,20 @@ module _ (asked : Word) (scripts : List Word) (old mid : ShelfState) (others : L
       first = λ is. (mid, others, (λ fits. omega (arith, handed, fits)), on.first is);
       unasked = λ is. absurd (cc (is));
       unwritten = λ is. on.unwritten is ∙ is_new.seen ∙ sym on.goes_on.first;
-      none = λ is. let n = on.none is in (n.0, n.1, tells_since notice (moment later).state new (n.2 asked));
+      none = tells_none;
       told = on.told;
-      one = on.one;
+      one = ran;
+      untouched = λ is. record { handed = disk; is_new = is_new; syncs = on.untouched is };
+      complete = complete_from style moment source_state sink_state old new notice history sessions free asked scripts pages limit (Some later) tells_none on.told ran;
     }
+      where
+        tells_none : sessions ≡ [] → (history ≡ []) × CountsPages (BeganFrom moment pages limit (Some later)) notice free
+            × TellsUnrun notice asked scripts (Some (moment later).state) old new
+        tells_none is = let n = on.none is in (n.0, n.1, tells_since notice (moment later).state new (n.2 asked))
+
+        ran : sessions ≢ [] → (store : Standing D) × IsOneHistory style moment source_state sink_state sessions notice history free store
+            × BeganFrom moment pages limit (Some later) store × WasOnlyRead moment asked (moment store.opened.disk)
+        ran some = let o = on.one some in (o.0, o.1, o.2, record { handed = disk; is_new = is_new; syncs = o.3 })
 
 module _ {D S K : Type 0} (style : Style) (moment : D → Moment) (source_state : S → SourceState) (sink_state : K → SinkState) (old now : ShelfState) (asked : Word) (scripts : List Word)
     (pages limit : ℕ) where
@@ -450,17 +472,19 @@ module _ {D S K : Type 0} (style : Style) (moment : D → Moment) (source_state 
     first = λ is. tt;
     unasked = λ is. others;
     unwritten = λ is. tt;
-    none = λ is. (
-      refl,
-      refl,
-      elim fails [
-        | inl want ↦ subst (λ (n : Notice). TellsUnrun n asked scripts None old now) (sym want.0) tt
-        | inr fault ↦ subst (λ (n : Notice). TellsUnrun n asked scripts None old now) (sym fault.0) (inr (refl, fault.1, fault.2))
-      ],
-    );
+    untouched = λ is. tt;
+    none = λ is. (refl, inl refl, tells);
     told = λ ran. absurd (ran refl);
     one = λ ran. absurd (ran refl);
+    complete = complete_from style moment source_state sink_state old now told [] [] 0 asked scripts pages limit None (λ is. (refl, inl refl, tells))
+        (λ ran. absurd (ran refl)) (λ ran. absurd (ran refl));
   }
+    where
+      tells : TellsUnrun told asked scripts None old now
+      tells = elim fails [
+        | inl want ↦ subst (λ (n : Notice). TellsUnrun n asked scripts None old now) (sym want.0) tt
+        | inr fault ↦ subst (λ (n : Notice). TellsUnrun n asked scripts None old now) (sym fault.0) (inr (refl, fault.1, fault.2))
+      ]
 
 -- where memory was short, nothing more need be told
 pub fails_or_memory : {X Memory Fails : Type 0} → (Memory × X) ⊎ Fails → Memory ⊎ Fails

@@ -13,7 +13,7 @@ use Rattle.run_opening.specs.declared.reports.reports.SessionReport.{SessionRepo
 use Rattle.run_opening.specs.declared.reports.notices.Notice.{Notice}
 use Rattle.run_opening.specs.declared.reports.notices.Notice.TheVariants as notices
 use Rattle.afl_run.specs.OneHistory.{IsOneHistory}
-use Rattle.afl_run.specs.Run.{BeganEmpty, HandsOutStreams, IsOfAnswers, TellsSessions, plain}
+use Rattle.afl_run.specs.Run.{BeganEmpty, CountsPages, HandsOutStreams, IsOfAnswers, TellsSessions, plain}
 
 -- the report, if there is one
 abbrev pub listed : {A : Type 0} → Option A → List A
@@ -34,7 +34,8 @@ pub record RunsGenerate {D S K : Type 0} (moment : D → Moment) (source_state :
   -- no other name was asked for
   pub others : LeavesOthers standard old new
   pub handed : HandsOutStreams 0 1 (length (listed generated)) old new
-  pub none : generated ≡ None → (history ≡ []) × (free ≡ 0) × ((notice ≡ notices.Memory) ⊎ FailsFor 0 (old.replies standard) notice old new)
+  pub none : generated ≡ None → (history ≡ []) × CountsPages (BeganEmpty moment) notice free
+      × ((notice ≡ notices.Memory) ⊎ FailsFor 0 (old.replies standard) notice old new)
   pub told : TellsSessions notice (listed generated) None
   -- its disk never fails, and is never damaged
   pub disk : notice ≢ notices.Disk

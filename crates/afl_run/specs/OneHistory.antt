@@ -26,6 +26,7 @@ use Rattle.session_threads.specs.Marked.{IsMarked}
 use Rattle.session_threads.specs.Style.{Style}
 use Rattle.run_opening.specs.Held.{HoldsHistory}
 use Rattle.afl_run.specs.Backups.{IsBackupReportOf}
+use Rattle.run_opening.specs.Kept.{HasFailed}
 use Rattle.afl_run.specs.Printed.{Prints}
 use Rattle.run_opening.specs.declared.reports.reports.BackupReport.{BackupReport}
 use Rattle.session_threads.specs.Sessions.{seats_for}
@@ -71,6 +72,8 @@ module _ {D S K : Type 0} (style : Style) (moment : D → Moment) (source_state 
     -- each page that nobody can name is free, or one more entry would pass the limit
     pub reaped : (notice ≡ Memory → ⊥) → reap_comes store.ledger ≡ false
     pub causes : HasCause moment source_state sink_state sessions backup notice store
+    -- a change is in doubt only where a call of the disk failed
+    pub doubt : IfSome store.doubt (λ _. HasFailed (moment store.opened.disk).state (moment store.disk).state)
     pub cells : (db : Database) → BeganAs (moment store.opened.disk).state db → HoldsHistory moment store db
     -- whatever the file stood for as it was opened, each image has each payload, whole or with the bytes of then
     pub payloads : (file : List ℕ) → HasTold (moment store.opened.disk).state file → (image : List ℕ) → (moment store.disk).may_leave image

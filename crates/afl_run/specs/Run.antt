@@ -1,15 +1,19 @@
 -- What the top call reports, by the words.
-use Rattle.std.specs.Prelude.{◌≡◌, ◌≢◌, ◌⊎◌, ℕ, ◌+◌, ◌≤◌, false, List, [], ◌∷◌, ◌++◌, length, All, Option, None, Some, IfSome, IsSome}
+use Rattle.std.specs.Prelude.{◌≡◌, ◌≢◌, ◌⊎◌, ℕ, ◌+◌, ◌≤◌, false, List, [], ◌∷◌, ◌++◌, length, All, Option, None, Some, IfSome, IsSome, IsTrue}
 use Rattle.std.specs.List.{AllZip}
 use Rattle.afl_outside.specs.Counts.{Rose}
-use Rattle.afl_outside.specs.Disk.{DiskState, Moment}
+use Rattle.afl_outside.specs.Disk.{DiskState, IsNewDisk, Moment}
 use Rattle.afl_outside.specs.Source.{SourceState}
 use Rattle.afl_outside.specs.Sink.{SinkState}
 use Rattle.afl_outside.specs.Shelf.{LeavesOthers, ShelfState}
 use Rattle.event_core.specs.declared.entry.Entry.{Entry}
 use Rattle.file_meaning.specs.Opening.{IsWrongAt}
+use Rattle.file_meaning.specs.Standing.{Stands}
+use Rattle.page_chain.specs.Puts.{OnlySyncs}
+use Rattle.plan_changes.specs.Databases.{Database}
+use Rattle.store_ledger.specs.Ledger.{unused_pages}
 use Rattle.store_state.specs.Standings.{BeganAs, Standing}
-use Rattle.run_opening.specs.Names.{Word, standard, stream_names}
+use Rattle.run_opening.specs.Names.{Word, reply_name, standard, stream_names}
 use Rattle.run_opening.specs.Opened.{FailsToOpen, FailsToOpenDevice, HandsOut, IsOpenedDevice, LeavesUnasked, StopsAt}
 use Rattle.run_opening.specs.Outcomes.{notice_of}
 use Rattle.run_opening.specs.declared.reports.reports.BackupReport.{BackupReport}
@@ -103,12 +107,42 @@ pub record BeganFrom {D : Type 0} (moment : D → Moment) (pages limit : ℕ) (d
   pub page_limit : store.ledger.base.limit ≡ pages
   pub found : IfSome (moment store.disk).state.first (λ file. IsOpenedFrom pages file (start_of store))
 
+-- Since it was handed out under this name the device was only read and synced: a stop at any moment until now left nothing that it might not
+-- have left then
+pub record WasOnlyRead {D : Type 0} (moment : D → Moment) (asked : Word) (now : Moment) : Type 0 where
+  pub handed : D
+  pub is_new : IsNewDisk asked (moment handed).state
+  pub syncs : OnlySyncs (moment handed) now
+
+-- an honest device began with the bytes of a database, and no call of it failed
+pub record IsSoundDevice (disk : DiskState) : Type 0 where
+  pub honest : IsTrue disk.honest
+  pub file : List ℕ
+  pub tells : disk.first ≡ Some file
+  pub db : Database
+  pub stands : Stands file db
+  pub calm : Rose 0 disk.faults → ⊥
+
+-- the shelf tells that it opens these scripts and their replies
+abbrev pub OpensStreams : ShelfState → List Word → Type 0
+OpensStreams shelf scripts = All (λ script. IsSome (shelf.scripts script) × IsSome (shelf.replies (reply_name script))) scripts
+
+-- no call of the streams of these sessions failed
+abbrev pub HaveNoFaults : {S K : Type 0} → (S → SourceState) → (K → SinkState) → List (SessionReport S K) → Type 0
+HaveNoFaults source_state sink_state sessions =
+    All (λ report. (Rose 0 (source_state report.source).faults → ⊥) × (Rose 0 (sink_state report.sink).faults → ⊥)) sessions
+
 -- the store was opened over a database of no arrays, within these limits
 pub record BeganEmpty {D : Type 0} (moment : D → Moment) (store : Standing D) : Type 0 where
   pub database : BeganAs (moment store.opened.disk).state []
   pub found : IfSome (moment store.opened.disk).state.seen (λ file. IsOpenedFrom 65536 file (start_of store))
   pub entries : store.ledger.limit ≡ 1048576
   pub page_limit : store.ledger.base.limit ≡ 65536
+
+-- Where no session ran, pages are told of only if memory was short over a store that had been opened, which began so: those that nobody can name there
+abbrev pub CountsPages : {D : Type 0} → (Standing D → Type 0) → Notice → ℕ → Type 0
+CountsPages {D} Began notice free = (free ≡ 0)
+    ⊎ ((notice ≡ notices.Memory) × ((store : Standing D) × Began store × (store.ledger.entries ≡ []) × (free ≡ length (unused_pages store.ledger))))
 
 module _ {D S K : Type 0} (style : Style) (moment : D → Moment) (source_state : S → SourceState) (sink_state : K → SinkState) (old new : ShelfState)
     (notice : Notice) (history : List Entry) (sessions : List (SessionReport S K)) (backup : Option (BackupReport K)) (free : ℕ) where
@@ -129,10 +163,19 @@ module _ {D S K : Type 0} (style : Style) (moment : D → Moment) (source_state 
     pub unasked : device ≡ None → LeavesOthers asked old new
     -- where no session ran, the device reads as it began
     pub unwritten : HasNoReport sessions backup → IfSome device (λ disk. (moment disk).state.seen ≡ (moment disk).state.first)
-    pub none : HasNoReport sessions backup → (history ≡ []) × (free ≡ 0) × TellsUnrun notice asked scripts backups (state_in moment device) old new
+    pub none : HasNoReport sessions backup → (history ≡ []) × CountsPages (BeganFrom moment pages limit device) notice free
+        × TellsUnrun notice asked scripts backups (state_in moment device) old new
     pub told : TellsSessions notice sessions backup
     pub one : (HasNoReport sessions backup → ⊥) → (store : Standing D)
         × IsOneHistory style moment source_state sink_state sessions backup notice history free store × BeganFrom moment pages limit device store
+        × WasOnlyRead moment asked (moment store.opened.disk)
+    -- where no session ran, the device was only read
+    pub untouched : HasNoReport sessions backup → IfSome device (λ disk. WasOnlyRead moment asked (moment disk))
+    -- where the shelf tells that it opens all that is asked for, the device began as a database, and no count rose, the scripts were answered and the
+    -- backup made, but for memory
+    pub complete : IsSome (old.devices asked) → OpensStreams old scripts → All (λ name. IsSome (old.replies name)) backups
+        → IfSome device (λ disk. IsSoundDevice (moment disk).state) → HaveNoFaults source_state sink_state sessions
+        → IfSome backup (λ report. Rose 0 (sink_state report.sink).faults → ⊥) → IsOfAnswers notice
 
 -- the replies of a run whose words ask for no other style
 abbrev pub plain : Style
@@ -145,7 +188,8 @@ module _ {D S K : Type 0} (moment : D → Moment) (source_state : S → SourceSt
     pub opened : AreOfScripts source_state sink_state old (standard ∷ []) sessions
     pub others : LeavesUnasked (stream_names (standard ∷ [])) old new
     pub handed : HandsOutStreams 0 1 (length sessions) old new
-    pub none : sessions ≡ [] → (history ≡ []) × (free ≡ 0) × ((notice ≡ notices.Memory) ⊎ FailsToOpen (standard ∷ []) notice old new)
+    pub none : sessions ≡ [] → (history ≡ []) × CountsPages (BeganEmpty moment) notice free
+        × ((notice ≡ notices.Memory) ⊎ FailsToOpen (standard ∷ []) notice old new)
     pub told : TellsSessions notice sessions None
     pub first : sessions ≡ [] → StopsAt source_state sink_state (standard ∷ []) old new notice
     -- its disk never fails, and is never damaged
@@ -153,8 +197,7 @@ module _ {D S K : Type 0} (moment : D → Moment) (source_state : S → SourceSt
     pub damaged : (page : ℕ) → notice ≢ notices.Damaged page
     -- where the shelf tells that it opens both streams, and no count of theirs rose, the script was answered, but for memory
     pub complete : IsSome (old.scripts standard) → IsSome (old.replies standard)
-        → All (λ report. (Rose 0 (source_state report.source).faults → ⊥) × (Rose 0 (sink_state report.sink).faults → ⊥)) sessions
-        → IsOfAnswers notice
+        → HaveNoFaults source_state sink_state sessions → IsOfAnswers notice
     pub one : sessions ≢ [] → (store : Standing D) × IsOneHistory plain moment source_state sink_state sessions None notice history free store
         × BeganEmpty moment store
 

@@ -117,7 +117,7 @@ fn run_on_sink<K: Sink + Send + Drop, R: Threads + Wait + Sync, G: Gate>(
     requires begun { StandsAfter [] made.splitter }
     requires none { made.room.items ≡ [] }
     requires room { 1 ≤ vec_capacity made.room }
-    ensures run { IsUnrun sure_disk_moment made.disk result
+    ensures run { IsUnrun sure_disk_moment made.disk LIMITS result
         ⊎ ((end : Standing SureBytes) × RunsOver plain sure_disk_moment sure_source_state K.state made.disk LIMITS
         (record { source = made.source; sink = sink; splitter = made.splitter } ∷ []) None end result None) }
     ensures few { length result.sessions ≤ 1 }

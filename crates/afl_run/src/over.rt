@@ -50,7 +50,7 @@ pub(crate) fn run_over<
     requires count { HasSessions (length inputs.streams + seats_for inputs.backup) }
     requires begun { All (λ own. StandsAfter [] own.splitter) inputs.streams }
     ensures same { DiskGoesOn (D.moment disk).state (D.moment result.0.disk).state }
-    ensures run { (IsUnrun D.moment disk result.0 × (result.1 ≡ None))
+    ensures run { (IsUnrun D.moment disk limits result.0 × (result.1 ≡ None))
         ⊎ ((end : Standing D) × RunsOver options.style D.moment S.state K.state disk limits inputs.streams inputs.backup end result.0 result.1) }
 {
     match open_store(alloc, disk, limits) {
@@ -59,7 +59,7 @@ pub(crate) fn run_over<
             let Inputs { streams, backup } = inputs;
             drop(streams);
             drop(backup);
-            (unrun(alloc, notice, disk), None)
+            (unrun(alloc, notice, 0, disk), None)
         }
     }
 }
@@ -84,7 +84,7 @@ pub(crate) fn run_alone<
     requires count { HasSessions (length streams) }
     requires begun { All (λ own. StandsAfter [] own.splitter) streams }
     ensures same { DiskGoesOn (D.moment disk).state (D.moment result.disk).state }
-    ensures run { IsUnrun D.moment disk result ⊎ ((end : Standing D) × RunsOver options.style D.moment S.state K.state disk limits streams None end result None) }
+    ensures run { IsUnrun D.moment disk limits result ⊎ ((end : Standing D) × RunsOver options.style D.moment S.state K.state disk limits streams None end result None) }
 {
     let inputs = Inputs {
         streams,
@@ -96,14 +96,19 @@ pub(crate) fn run_alone<
 }
 
 /// Where no session ran.
-fn unrun<D: Disk, S: Drop, K: Drop>(alloc: Global, notice: Notice, disk: D) -> StoreRun<D, S, K>
-    ensures { result ≡ record { notice = notice; history = []; sessions = []; free_pages = 0; disk = disk } }
+fn unrun<D: Disk, S: Drop, K: Drop>(
+    alloc: Global,
+    notice: Notice,
+    free_pages: u64,
+    disk: D,
+) -> StoreRun<D, S, K>
+    ensures { result ≡ record { notice = notice; history = []; sessions = []; free_pages = free_pages; disk = disk } }
 {
     StoreRun {
         notice,
         history: List::new(alloc),
         sessions: List::new(alloc),
-        free_pages: 0,
+        free_pages,
         disk,
     }
 }
@@ -142,9 +147,11 @@ fn run_store<
         Err((Memory, store, streams, backup)) => {
             drop(streams);
             drop(backup);
+            let mut store = store;
+            let free_pages = u64::from(store.free_pages());
             let (disk, entries) = store.close();
             let_go_entries(entries);
-            (unrun(alloc, Notice::Memory, disk), None)
+            (unrun(alloc, Notice::Memory, free_pages, disk), None)
         }
     }
 }

@@ -1,5 +1,6 @@
 //! Sessions and a backup over a device.
 ghost use Rattle.std.specs.Prelude.{◌≡◌, ◌≢◌, ◌+◌, ◌++◌, ◌≤◌, All, Some, length};
+ghost use Rattle.page_chain.specs.Puts.{OnlySyncs};
 ghost use Rattle.run_opening.specs.Names.{HaveOwnNames, stream_names};
 ghost use Rattle.run_opening.specs.Notice.{status_of};
 ghost use Rattle.afl_run.specs.Run.{RunsScripts};
@@ -8,7 +9,7 @@ ghost use Rattle.afl_run.specs.Inner.Streams.{IsAsBegun, RunsOn};
 
 use crate::over::{Inputs, Outcome, run_over};
 use crate::report::{Report, unrun};
-use afl_outside::{Gate, Shelf};
+use afl_outside::{Disk, Gate, Shelf};
 use command_words::Arg;
 use run_opening::{
     Limits, Notice, StoreRun, open_device, open_reply, open_streams, status,
@@ -92,7 +93,10 @@ fn run_on<F: Shelf, R: Threads + Wait + Sync, G: Gate>(
             let outcome = run_over(rt, alloc, disk, limits, options, inputs, gate);
             report_of(outcome, shelf)
         }
-        Err(notice) => unrun(alloc, notice, Some(disk), shelf),
+        Err(notice) => {
+            is_unmoved(&disk);
+            unrun(alloc, notice, Some(disk), shelf)
+        }
     }
 }
 
@@ -116,6 +120,13 @@ fn open_backup<F: Shelf>(names: Names<'_>, shelf: &mut F) -> Result<Option<F::K>
             Ok(Some(sink))
         }
     }
+}
+
+/// A disk that is left alone is one that was only read.
+fn is_unmoved<D: Disk>(disk: &D)
+    ensures { OnlySyncs (D.moment disk.now) (D.moment disk.now) }
+{
+    let _disk = disk;
 }
 
 fn report_of<F: Shelf>(outcome: Outcome<F::Device, F::S, F::K>, shelf: F) -> Report<F>

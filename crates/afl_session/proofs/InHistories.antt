@@ -7,9 +7,9 @@ use Rattle.afl_lexer.specs.Split.{Statement, closed_statements, statements}
 use Rattle.afl_outside.specs.Disk.{Moment}
 use Rattle.afl_outside.specs.Source.{SourceState}
 use Rattle.afl_outside.specs.Sink.{SinkState}
-use Rattle.event_core.specs.declared.entry.Entry.TheVariants.{Pin}
+use Rattle.event_core.specs.declared.entry.Entry.TheVariants.{Pin, Unpin}
 use Rattle.session_answers.specs.Acts.{Course, nothing, looking, trying, making}
-use Rattle.session_answers.specs.Answered.{BeganAt, IsAnswered}
+use Rattle.session_answers.specs.Answered.{BeganAt, EndedAt, IsAnswered}
 use Rattle.store_state.specs.declared.state.event.Event.{Event}
 use Rattle.session_answers.specs.Replies.{IsToldFor}
 use Rattle.session_answers.specs.declared.replies.reply.Reply.{Reply}
@@ -32,6 +32,13 @@ began_stays session pin old new later looking began = entered_later (length (ent
 began_stays session pin old new later (trying change) began = entered_later (length (entries_in old)) (Pin session) pin new later began
 began_stays session pin old new later (making change) began = entered_later (length (entries_in old)) (Pin session) pin new later began
 
+-- and ended where it ended
+ended_stays : (session place unpin : ℕ) (new later : List Event) (course : Course) → EndedAt session place unpin new course → EndedAt session place unpin (new ++ later) course
+ended_stays session place unpin new later nothing ended = tt
+ended_stays session place unpin new later looking ended = entered_later place (Unpin session) unpin new later ended
+ended_stays session place unpin new later (trying change) ended = entered_later place (Unpin session) unpin new later ended
+ended_stays session place unpin new later (making change) ended = entered_later place (Unpin session) unpin new later ended
+
 -- ---- a mark in more events
 
 module _ {D : Type 0} (style : Style) (moment : D → Moment) (origin : Start D) (session : ℕ) where
@@ -44,6 +51,8 @@ module _ {D : Type 0} (style : Style) (moment : D → Moment) (origin : Start D)
     adds = answered.adds;
     acts = answered.acts;
     began = began_stays session answered.pin old new later answered.course answered.began;
+    unpin = answered.unpin;
+    ended = ended_stays session reply.place answered.unpin new later answered.course answered.ended;
     line = answered.line;
     told = λ tree derives.
         let t = answered.told tree derives in (

@@ -6,7 +6,7 @@ use Rattle.afl_trees.specs.Statement.{DerivesText, StopsText}
 use Rattle.afl_trees.specs.declared.kind.ParseKind.{ParseKind}
 use Rattle.result_print.specs.declared.refusal.Refusal.TheVariants.{HistoryFull}
 use Rattle.session_answers.specs.Acts.{acts_for, acts_in, Course}
-use Rattle.session_answers.specs.Answered.{BeganAt, IsStopReply}
+use Rattle.session_answers.specs.Answered.{BeganAt, EndedAt, IsStopReply}
 use Rattle.session_sources.specs.Courses.{AddsOwn}
 use Rattle.store_state.specs.declared.state.event.Event.{Event}
 use Rattle.session_answers.specs.Refusals.{IsWantBetween}
@@ -19,7 +19,8 @@ use Rattle.afl_session.specs.Marked.{IsMarkedBy, ReplyRule}
 use Rattle.afl_session.specs.Session.{AnswerRule}
 
 -- A STATEMENT IN ONE HISTORY, in a style of replies: between what its session had seen before and then, it did this of its own; its pin came
--- at that place of the history, and its reply, which is that of its tree or of its stop, tells at its place of the history what it has to
+-- at that place of the history, and ended at that one; and its reply, which is that of its tree or of its stop, tells at its place of the
+-- history what it has to
 pub record IsAnsweredIn {D : Type 0} (style : Style) (moment : D → Moment) (origin : Start D) (session : ℕ) (events old new : List Event)
     (last : ℕ) (text : List ℕ) (reply : Reply) : Type 0 where
   pub own : List Event
@@ -28,6 +29,8 @@ pub record IsAnsweredIn {D : Type 0} (style : Style) (moment : D → Moment) (or
   pub adds : AddsOwn session own old new
   pub acts : acts_in own ≡ acts_for course
   pub began : BeganAt session pin old events course
+  pub unpin : ℕ
+  pub ended : EndedAt session reply.place unpin events course
   pub line : HasLine reply reply.refusal
   pub told : (tree : Term) → DerivesText text tree
       → (length (entries_in old) ≤ reply.place) × IsToldFor moment origin session pin events own text tree reply style reply.refusal course

@@ -71,9 +71,7 @@ pub fn run_sessions<
     match opened(alloc, store, sessions) {
         Ok((shared, seats, room)) => {
             let inputs = Inputs { streams, backup };
-            Ok(run_shared(
-                rt, alloc, shared, seats, inputs, options, gate, room,
-            ))
+            Ok(run_shared(rt, alloc, shared, seats, inputs, options, gate, room))
         }
         Err((want, store)) => Err((want, store, streams, backup)),
     }

@@ -4,6 +4,7 @@ use Rattle.afl_outside.specs.Counts.{Rose}
 use Rattle.afl_outside.specs.Disk.{Moment}
 use Rattle.afl_outside.specs.Source.{SourceState}
 use Rattle.afl_outside.specs.Sink.{SinkState}
+use Rattle.page_chain.specs.Puts.{OnlySyncs}
 use Rattle.plan_changes.specs.Databases.{Database}
 use Rattle.run_opening.specs.Start.{Start}
 use Rattle.run_opening.specs.Starts.{start_of}
@@ -18,6 +19,7 @@ use Rattle.session_threads.specs.Sessions.{seats_for, AreSessionsOf, HasBackup}
 use Rattle.run_opening.specs.declared.reports.reports.BackupReport.{BackupReport}
 use Rattle.afl_run.specs.Backups.{ended}
 use Rattle.session_threads.specs.Style.{Style}
+use Rattle.store_ledger.specs.Ledger.{unused_pages}
 use Rattle.store_opening.specs.declared.opening.opening.Limits.{Limits}
 use Rattle.store_state.specs.Events.{events, owner_of}
 use Rattle.store_state.specs.Standings.{BeganAs, Standing}
@@ -32,16 +34,26 @@ module _ {D S K : Type 0} where
     pub memory : run.notice ≡ Memory
     pub none : run.sessions ≡ []
     pub nothing : run.history ≡ []
-    pub no_pages : run.free_pages ≡ 0
+    pub pages : run.free_pages ≡ length (unused_pages store.ledger)
+    pub is_disk : run.disk ≡ store.disk
+
+  -- a store was opened over the disk, memory was short then, and its pages are told
+  pub record WasShort (moment : D → Moment) (disk : D) (limits : Limits) (run : StoreRun D S K) : Type 0 where
+    pub memory : run.notice ≡ Memory
+    pub store : Standing D
+    pub began : BeganOver moment disk limits (start_of store)
+    pub entries : store.ledger.entries ≡ []
+    pub pages : run.free_pages ≡ length (unused_pages store.ledger)
     pub is_disk : run.disk ≡ store.disk
 
   -- no session ran, since the store was not opened, or memory was short
-  pub record IsUnrun (moment : D → Moment) (disk : D) (run : StoreRun D S K) : Type 0 where
+  pub record IsUnrun (moment : D → Moment) (disk : D) (limits : Limits) (run : StoreRun D S K) : Type 0 where
     pub none : run.sessions ≡ []
     pub nothing : run.history ≡ []
-    pub no_pages : run.free_pages ≡ 0
+    pub pages : (run.free_pages ≡ 0) ⊎ WasShort moment disk limits run
     pub cause : TellsUnopened run.notice (moment disk).state (moment run.disk).state
     pub unwritten : (moment run.disk).state.seen ≡ (moment disk).state.seen
+    pub syncs : OnlySyncs (moment disk) (moment run.disk)
 
 module _ {D S K : Type 0} (style : Style) (moment : D → Moment) (source_state : S → SourceState) (sink_state : K → SinkState) where
   -- SESSIONS RAN over a store that began so, which was this at its end: each served its streams, and a backup was made where there is a sink for it,

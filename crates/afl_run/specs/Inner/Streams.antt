@@ -5,6 +5,7 @@ use Rattle.afl_outside.specs.Source.{SourceState}
 use Rattle.afl_outside.specs.Sink.{SinkState}
 use Rattle.afl_outside.specs.Shelf.{ShelfState}
 use Rattle.event_core.specs.declared.entry.Entry.{Entry}
+use Rattle.page_chain.specs.Puts.{OnlySyncs}
 use Rattle.store_state.specs.Standings.{Standing}
 use Rattle.run_opening.specs.Names.{Word, stream_names}
 use Rattle.run_opening.specs.Opened.{HandsOut, LeavesUnasked, StopsAt}
@@ -15,7 +16,7 @@ use Rattle.afl_run.specs.OneHistory.{IsOneHistory}
 use Rattle.afl_run.specs.Backups.{IsBackupOpenedAs}
 use Rattle.run_opening.specs.declared.reports.reports.BackupReport.{BackupReport}
 use Rattle.session_threads.specs.Sessions.{seats_for}
-use Rattle.afl_run.specs.Run.{AreOfScripts, BeganFrom, FailsToOpenBackup, HandsOutStreams, HasNoReport, IsOfStore, TellsSessions, TellsUnrun, state_in}
+use Rattle.afl_run.specs.Run.{AreOfScripts, BeganFrom, CountsPages, FailsToOpenBackup, HandsOutStreams, HasNoReport, IsOfStore, TellsSessions, TellsUnrun, state_in}
 
 -- a disk of whose calls none failed yet, and that reads as it began
 pub record IsAsBegun (disk : DiskState) : Type 0 where
@@ -39,7 +40,10 @@ module _ {D S K : Type 0} (style : Style) (moment : D → Moment) (source_state 
     pub first : HasNoReport sessions backup → StopsAt source_state sink_state scripts old new notice ⊎ FailsToOpenBackup scripts backups (length scripts) old new
     pub unwritten : HasNoReport sessions backup → IfSome device (λ later. (moment later).state.seen ≡ (moment disk).state.seen)
     -- of the device only what happened to it is told here
-    pub none : HasNoReport sessions backup → (history ≡ []) × (free ≡ 0) × ((asked : Word) → TellsUnrun notice asked scripts backups (state_in moment device) old new)
+    pub none : HasNoReport sessions backup → (history ≡ []) × CountsPages (BeganFrom moment pages limit device) notice free
+        × ((asked : Word) → TellsUnrun notice asked scripts backups (state_in moment device) old new)
     pub told : TellsSessions notice sessions backup
-    pub one : (HasNoReport sessions backup → ⊥) → (store : Standing D) × IsOneHistory style moment source_state sink_state sessions backup notice history free store
-        × BeganFrom moment pages limit device store
+    pub one : (HasNoReport sessions backup → ⊥) → (store : Standing D)
+        × IsOneHistory style moment source_state sink_state sessions backup notice history free store × BeganFrom moment pages limit device store
+        × OnlySyncs (moment disk) (moment store.opened.disk)
+    pub untouched : HasNoReport sessions backup → IfSome device (λ later. OnlySyncs (moment disk) (moment later))

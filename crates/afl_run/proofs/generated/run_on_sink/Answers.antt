@@ -18,7 +18,7 @@ run_alone-requires-clause-begun g c κs within = begun_alone _ c.streams_in-stre
 pub returns-clause-run : goal.returns-clause-run
 returns-clause-run g c =
     let made = c.args.made in
-    subst (λ (all : List (Streams Reading g.row.K.Denot)). IsUnrun sure_disk_moment made.disk c.run_alone.result
+    subst (λ (all : List (Streams Reading g.row.K.Denot)). IsUnrun sure_disk_moment made.disk (record { pages = 65536; history = 1048576 }) c.run_alone.result
     ⊎ ((end : Standing SureBytes) × RunsOver plain sure_disk_moment sure_source_state g.K.Sink.state made.disk (record { pages = 65536; history = 1048576 }) all None end c.run_alone.result None))
     c.streams_in-streams.ensures c.run_alone.ensures.run
 
@@ -27,6 +27,6 @@ returns-clause-few g c =
     let made = c.args.made in
     let own : Streams Reading g.row.K.Denot = record { source = made.source; sink = c.args.sink; splitter = made.splitter } in
     few_sessions g.K.Sink.state made.disk (record { pages = 65536; history = 1048576 }) own c.run_alone.result
-    (subst (λ (all : List (Streams Reading g.row.K.Denot)). IsUnrun sure_disk_moment made.disk c.run_alone.result
+    (subst (λ (all : List (Streams Reading g.row.K.Denot)). IsUnrun sure_disk_moment made.disk (record { pages = 65536; history = 1048576 }) c.run_alone.result
     ⊎ ((end : Standing SureBytes) × RunsOver plain sure_disk_moment sure_source_state g.K.Sink.state made.disk (record { pages = 65536; history = 1048576 }) all None end c.run_alone.result None))
     c.streams_in-streams.ensures c.run_alone.ensures.run)

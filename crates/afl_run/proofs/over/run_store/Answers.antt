@@ -1,6 +1,6 @@
-use Rattle.std.proofs.Common.{◌∙◌, ap, inl, inr, refl, subst}
-use Rattle.run_opening.specs.Outcomes.{notice_of}
+use Rattle.std.proofs.Common.{◌∙◌, ap, inl, inr, length, refl}
 use Rattle.run_opening.specs.Starts.{start_of}
+use Rattle.store_ledger.specs.Ledger.{unused_pages}
 use Rattle.store_state.specs.At.{standing}
 use Rattle.store_state.specs.declared.state.parts.StoreParts.{StoreParts}
 use Rattle.afl_run.proofs.OverLemmas.{runs_to, told_ended, unrun_as}
@@ -25,5 +25,6 @@ returns-in-Ok g c =
 pub returns-in-Err : goal.returns-in-Err
 returns-in-Err g c =
     let moment = g.D.Disk.moment in
-    inl (unrun_as c.args.options.style moment g.S.Source.state g.K.Sink.state (standing moment c.args.store) _ _ c.unrun.result c.unrun.ensures refl
-    (c.close-disk.ensures.disk ∙ ap (λ (parts : StoreParts g.row.D.Denot). parts.file.disk) c.in-Err.ensures.err.0), refl)
+    inl (unrun_as c.args.options.style moment g.S.Source.state g.K.Sink.state (standing moment c.args.store) _ _ _ c.unrun.result c.unrun.ensures refl
+    (c.close-disk.ensures.disk ∙ ap (λ (parts : StoreParts g.row.D.Denot). parts.file.disk) (c.free_pages.ensures.same ∙ c.in-Err.ensures.err.0))
+    (c.from-free_pages.ensures ∙ c.free_pages.ensures.count ∙ ap (λ (parts : StoreParts g.row.D.Denot). length (unused_pages parts.ledger)) c.in-Err.ensures.err.0)), refl)

@@ -56,4 +56,4 @@ returns-in-Err-clause-runs g c =
     RunsOn c.args.options.style moment source sink old now n h reports f c.args.disk scripts limits.pages limits.history d)
     r.shelf c.open_streams.new.shelf r.notice c.in-Err.notice r.history _ r.sessions _ r.free_pages _ r.disk _
     e.shelf e.notice e.history e.sessions e.free_pages e.disk
-    (on_unopened c.args.options.style moment source sink old (state c.open_streams.new.shelf) c.args.disk scripts limits s.others c.in-Err.notice s.some (fails_or_memory s.cause) s.first)
+    (on_unopened c.args.options.style moment source sink old (state c.open_streams.new.shelf) c.args.disk scripts limits s.others c.in-Err.notice s.some (fails_or_memory s.cause) s.first c.is_unmoved.ensures)

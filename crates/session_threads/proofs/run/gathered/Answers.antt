@@ -1,4 +1,4 @@
-use Rattle.std.proofs.Common.{◌≡◌, ◌∙◌, ◌+◌, ap, length, sym, subst, arith}
+use Rattle.std.proofs.Common.{◌≡◌, ◌∙◌, ◌+◌, ap, length, sym, arith}
 use Rattle.turn_lock.proofs.Gathering.{longer_by_one}
 use Rattle.session_threads.specs.Sessions.{seats_for}
 use Rattle.session_threads.proofs.Backups.{backup_made, extend_before, idle_behind, taken_count}
