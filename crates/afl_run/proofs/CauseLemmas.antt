@@ -39,7 +39,12 @@ use Rattle.run_opening.specs.declared.reports.reports.Streams.{Streams}
 use Rattle.run_opening.proofs.OutcomeLemmas.{is_damaged, is_disk}
 use Rattle.session_threads.specs.Marked.{AnswersText, IsMarked, IsReplyOf, reply_told}
 use Rattle.session_threads.specs.Session.{AreAnswered, Replies}
-use Rattle.session_threads.specs.Sessions.{AreSessionsOf}
+use Rattle.session_threads.specs.Sessions.{AreSessionsOf, HasBackup, IsBackupOf}
+use Rattle.backup_stream.specs.Dumps.{HasEndCause, HasNoPinCause}
+use Rattle.run_opening.specs.declared.reports.reports.BackupEnd.{BackupEnd}
+use Rattle.run_opening.specs.declared.reports.reports.BackupEnd.TheVariants as backups
+use Rattle.run_opening.specs.declared.reports.reports.BackupReport.{BackupReport}
+use Rattle.afl_run.specs.Backups.{ended}
 use Rattle.session_threads.specs.Style.{Style}
 
 -- ---- a fault among events
@@ -232,11 +237,60 @@ module _ {D : Type 0} (trees : HasTreeOrStop) (style : Style) (moment : D → Mo
       let there = subst (λ (mark : Mark). MarkedThere mark new) here (marks_in end is_whole read ms written new replies k m within) in
       reply_of_damage there.before there.then there.last (there.statement.end - there.statement.start) there.statement.text (reply_told m there.written) page there.marked.reply tells
 
+-- ---- a backup that tells it
+
+module _ {D K : Type 0} (moment : D → Moment) (sink_state : K → SinkState) (start : Start D) (session : ℕ) (sink : K) (report : BackupReport K) (all : List Event)
+    (dumped : IsBackupOf moment sink_state start session sink report all) where
+  backup_of_disk : report.end ≡ backups.Disk → has_fault_in all ≡ true
+  backup_of_disk is = elim dumped.dumped [
+    | inl under ↦
+        let cause = subst (HasEndCause moment start session [] dumped.seen (sink_state sink) (sink_state report.sink) report.place under.own) is under.cause in
+        let own = fault_is_there session under.own cause in
+        let mine = in_filter is_fault_event (λ event. is_owned_by (owner_of event) session) under.adds.more
+        (subst (λ (es : List Event). has_fault_in es ≡ true) (sym under.adds.mine) own) in
+        stays_there dumped.seen dumped.later.0 all dumped.later.1 (comes_there [] under.adds.more dumped.seen under.adds.grown mine)
+    | inr none ↦
+        let cause = subst (HasNoPinCause moment start session [] dumped.seen (sink_state sink) (sink_state report.sink) report.place) is none.cause in absurd cause
+  ]
+
+  backup_of_damage : (page : ℕ) → report.end ≡ backups.Damaged page → BeganAsNone moment start
+  backup_of_damage page is = elim dumped.dumped [
+    | inl under ↦
+        let cause = subst (HasEndCause moment start session [] dumped.seen (sink_state sink) (sink_state report.sink) report.place under.own) is under.cause in cause.none
+    | inr none ↦
+        let cause = subst (HasNoPinCause moment start session [] dumped.seen (sink_state sink) (sink_state report.sink) report.place) is none.cause in absurd cause
+  ]
+
+pub some_end : (end other : BackupEnd) → Some end ≡ Some other → end ≡ other
+some_end end other is = cc
+
+pub never_ended : (other : BackupEnd) → None ≡ Some other → ⊥
+never_ended other is = absurd (cc (is))
+
+-- where a backup may have been made
+module _ {D K : Type 0} (moment : D → Moment) (sink_state : K → SinkState) (start : Start D) (session : ℕ) where
+  disk_of_backup : (sink : Option K) (backup : Option (BackupReport K)) (all : List Event) → HasBackup moment sink_state start session sink backup all
+      → ended backup ≡ Some backups.Disk → has_fault_in all ≡ true
+  disk_of_backup None None all has is = absurd (never_ended backups.Disk is)
+  disk_of_backup None (Some report) all has is = absurd has
+  disk_of_backup (Some sink) None all has is = absurd has
+  disk_of_backup (Some sink) (Some report) all has is = backup_of_disk moment sink_state start session sink report all has (some_end report.end backups.Disk is)
+
+  damage_of_backup : (sink : Option K) (backup : Option (BackupReport K)) (all : List Event) (page : ℕ) → HasBackup moment sink_state start session sink backup all
+      → ended backup ≡ Some (backups.Damaged page) → BeganAsNone moment start
+  damage_of_backup None None all page has is = absurd (never_ended (backups.Damaged page) is)
+  damage_of_backup None (Some report) all page has is = absurd has
+  damage_of_backup (Some sink) None all page has is = absurd has
+  damage_of_backup (Some sink) (Some report) all page has is =
+      backup_of_damage moment sink_state start session sink report all has page (some_end report.end (backups.Damaged page) is)
+
 -- ---- the notice of sessions
 
 module _ {D S K : Type 0} (trees : HasTreeOrStop) (style : Style) (moment : D → Moment) (source_state : S → SourceState) (sink_state : K → SinkState) (start : Start D)
-    (streams : List (Streams S K)) (reports : List (SessionReport S K)) (all : List Event) (count : length reports ≡ length streams)
-    (each : AreSessionsOf style moment source_state sink_state start streams reports all) (notice : Notice) (told : (notice ≡ notices.Memory) ⊎ (notice ≡ notice_of reports)) where
+    (streams : List (Streams S K)) (reports : List (SessionReport S K)) (sink : Option K) (backup : Option (BackupReport K)) (all : List Event)
+    (count : length reports ≡ length streams) (each : AreSessionsOf style moment source_state sink_state start streams reports all)
+    (dumped : HasBackup moment sink_state start (length streams) sink backup all) (notice : Notice)
+    (told : (notice ≡ notices.Memory) ⊎ (notice ≡ notice_of reports (ended backup))) where
   some_stream : (k : ℕ) (xs : List (Streams S K)) → k < length xs → Streams S K
   some_stream k [] within = absurd (omega (arith, within))
   some_stream k (x ∷ xs) within = x
@@ -244,7 +298,10 @@ module _ {D S K : Type 0} (trees : HasTreeOrStop) (style : Style) (moment : D �
   pub tells_disk : notice ≡ notices.Disk → has_fault_in all ≡ true
   tells_disk is = elim told [
     | inl memory ↦ absurd (cc (memory, is))
-    | inr after ↦ of (is_disk reports notice after is)
+    | inr after ↦ elim (is_disk reports (ended backup) notice after is) [
+      | inl some ↦ of some
+      | inr own ↦ disk_of_backup moment sink_state start (length streams) sink backup all dumped own
+    ]
   ]
     where
       of : Any (λ r. Any (λ m. m.refusal ≡ Some refusals.Disk) r.marks) reports → has_fault_in all ≡ true
@@ -258,7 +315,10 @@ module _ {D S K : Type 0} (trees : HasTreeOrStop) (style : Style) (moment : D �
   pub tells_damage : (page : ℕ) → notice ≡ notices.Damaged page → BeganAsNone moment start
   tells_damage page is = elim told [
     | inl memory ↦ absurd (cc (memory, is))
-    | inr after ↦ of (is_damaged reports notice after page is)
+    | inr after ↦ elim (is_damaged reports (ended backup) notice after page is) [
+      | inl some ↦ of some
+      | inr own ↦ damage_of_backup moment sink_state start (length streams) sink backup all page dumped own
+    ]
   ]
     where
       of : Any (λ r. Any (λ m. m.refusal ≡ Some (refusals.Damaged page)) r.marks) reports → BeganAsNone moment start

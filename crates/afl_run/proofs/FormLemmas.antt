@@ -26,20 +26,20 @@ use Rattle.afl_run.specs.Run.{MakesDatabase, RunsScripts, RunsTry, TellsUnrun, s
 -- ---- no words have two forms
 
 module _ (words : List Word) where
-  pub try_or_run : (workers pages history : ℕ) (printing : Printing) (first : ℕ) → IsForm words Try → IsRun words workers pages history printing first → ⊥
-  try_or_run workers pages history printing first one other = let is = one_form words Try (Run 1 workers pages history printing first) one (refl, other) in absurd (cc (is))
+  pub try_or_run : (workers pages history : ℕ) (printing : Printing) (dump : Option ℕ) (first : ℕ) → IsForm words Try → IsRun words workers pages history printing dump first → ⊥
+  try_or_run workers pages history printing dump first one other = let is = one_form words Try (Run 1 workers pages history printing dump first) one (refl, other) in absurd (cc (is))
 
   pub try_or_init : IsForm words Try → IsInit words → ⊥
   try_or_init one other = let is = one_form words Try (Init 1) one (refl, other) in absurd (cc (is))
 
-  pub init_or_run : (device workers pages history : ℕ) (printing : Printing) (first : ℕ) → IsForm words (Init device) → IsRun words workers pages history printing first → ⊥
-  init_or_run device workers pages history printing first one other = let is = one_form words (Init device) (Run 1 workers pages history printing first) one (refl, other) in absurd (cc (is))
+  pub init_or_run : (device workers pages history : ℕ) (printing : Printing) (dump : Option ℕ) (first : ℕ) → IsForm words (Init device) → IsRun words workers pages history printing dump first → ⊥
+  init_or_run device workers pages history printing dump first one other = let is = one_form words (Init device) (Run 1 workers pages history printing dump first) one (refl, other) in absurd (cc (is))
 
-  pub run_or_init : (device workers pages history : ℕ) (printing : Printing) (first : ℕ) → IsForm words (Run device workers pages history printing first) → IsInit words → ⊥
-  run_or_init device workers pages history printing first one other = let is = one_form words (Run device workers pages history printing first) (Init 1) one (refl, other) in absurd (cc (is))
+  pub run_or_init : (device workers pages history : ℕ) (printing : Printing) (dump : Option ℕ) (first : ℕ) → IsForm words (Run device workers pages history printing dump first) → IsInit words → ⊥
+  run_or_init device workers pages history printing dump first one other = let is = one_form words (Run device workers pages history printing dump first) (Init 1) one (refl, other) in absurd (cc (is))
 
-  pub run_or_try : (device workers pages history : ℕ) (printing : Printing) (first : ℕ) → IsForm words (Run device workers pages history printing first) → IsForm words Try → ⊥
-  run_or_try device workers pages history printing first one other = let is = one_form words (Run device workers pages history printing first) Try one other in absurd (cc (is))
+  pub run_or_try : (device workers pages history : ℕ) (printing : Printing) (dump : Option ℕ) (first : ℕ) → IsForm words (Run device workers pages history printing dump first) → IsForm words Try → ⊥
+  run_or_try device workers pages history printing dump first one other = let is = one_form words (Run device workers pages history printing dump first) Try one other in absurd (cc (is))
 
   pub init_or_try : (device : ℕ) → IsForm words (Init device) → IsForm words Try → ⊥
   init_or_try device one other = let is = one_form words (Init device) Try one other in absurd (cc (is))
@@ -51,8 +51,8 @@ module _ (words : List Word) (number workers : ℕ) where
   pub init_or_generate : (device : ℕ) → IsForm words (Init device) → IsGenerate words number workers → ⊥
   init_or_generate device one other = let is = one_form words (Init device) (Generate number workers) one other in absurd (cc (is))
 
-  pub run_or_generate : (device some pages history : ℕ) (printing : Printing) (first : ℕ) → IsForm words (Run device some pages history printing first) → IsGenerate words number workers → ⊥
-  run_or_generate device some pages history printing first one other = let is = one_form words (Run device some pages history printing first) (Generate number workers) one other in absurd (cc (is))
+  pub run_or_generate : (device some pages history : ℕ) (printing : Printing) (dump : Option ℕ) (first : ℕ) → IsForm words (Run device some pages history printing dump first) → IsGenerate words number workers → ⊥
+  run_or_generate device some pages history printing dump first one other = let is = one_form words (Run device some pages history printing dump first) (Generate number workers) one other in absurd (cc (is))
 
   pub generate_or_init : IsGenerate words number workers → IsInit words → ⊥
   generate_or_init one other = let is = one_form words (Generate number workers) (Init 1) one (refl, other) in absurd (cc (is))
@@ -70,25 +70,25 @@ abbrev pub in_style : Printing → Style
 in_style printing = record { csv = printing.csv; trace = printing.trace }
 
 abbrev pages_in : Form → ℕ
-pages_in (Run device workers pages history printing first) = pages
+pages_in (Run device workers pages history printing dump first) = pages
 pages_in _ = 0
 
 abbrev history_in : Form → ℕ
-history_in (Run device workers pages history printing first) = history
+history_in (Run device workers pages history printing dump first) = history
 history_in _ = 0
 
 abbrev printing_in : Form → Printing
-printing_in (Run device workers pages history printing first) = printing
+printing_in (Run device workers pages history printing dump first) = printing
 printing_in _ = record { csv = false; trace = false }
 
 abbrev first_in : Form → ℕ
-first_in (Run device workers pages history printing first) = first
+first_in (Run device workers pages history printing dump first) = first
 first_in _ = 0
 
-module _ (words : List Word) (device workers pages history : ℕ) (printing : Printing) (first : ℕ) (one : IsForm words (Run device workers pages history printing first))
-    (w p h : ℕ) (c : Printing) (f : ℕ) (other : IsRun words w p h c f) where
-  both : Run device workers pages history printing first ≡ Run 1 w p h c f
-  both = one_form words (Run device workers pages history printing first) (Run 1 w p h c f) one (refl, other)
+module _ (words : List Word) (device workers pages history : ℕ) (printing : Printing) (dump : Option ℕ) (first : ℕ) (one : IsForm words (Run device workers pages history printing dump first))
+    (w p h : ℕ) (c : Printing) (b : Option ℕ) (f : ℕ) (other : IsRun words w p h c b f) where
+  both : Run device workers pages history printing dump first ≡ Run 1 w p h c b f
+  both = one_form words (Run device workers pages history printing dump first) (Run 1 w p h c b f) one (refl, other)
 
   pub same_pages : pages ≡ p
   same_pages = ap pages_in both
@@ -185,21 +185,21 @@ usage_place notice place word is told = ap place_in (sym is ∙ told)
 
 -- ---- the words of `run` and of `init`
 
-module _ (words : List Word) (device workers pages history : ℕ) (printing : Printing) (first : ℕ) (one : IsForm words (Run device workers pages history printing first)) where
+module _ (words : List Word) (device workers pages history : ℕ) (printing : Printing) (dump : Option ℕ) (first : ℕ) (one : IsForm words (Run device workers pages history printing dump first)) where
   pub its_device : slice_get words device ≡ Some one.1.device
-  its_device = ap (slice_get words) one.0 ∙ (keep_places.1 words workers pages history printing first one.1).0
+  its_device = ap (slice_get words) one.0 ∙ (keep_places.1 words workers pages history printing dump first one.1).0
 
   pub its_scripts : drop first words ≡ one.1.scripts
-  its_scripts = (keep_places.1 words workers pages history printing first one.1).1
+  its_scripts = (keep_places.1 words workers pages history printing dump first one.1).1
 
   pub device_within : device < length words
   device_within = get_within words device one.1.device its_device
 
   pub scripts_within : first < length words
-  scripts_within = (keep_places.1 words workers pages history printing first one.1).2
+  scripts_within = (keep_places.1 words workers pages history printing dump first one.1).2
 
   pub workers_within : (1 ≤ workers) × (workers ≤ 64)
-  workers_within = (keep_ranges.0 words workers pages history printing first one.1).0
+  workers_within = (keep_ranges.0 words workers pages history printing dump first one.1).0
 
   pub some_scripts : (1 ≤ length (drop first words)) × (length (drop first words) ≤ 16)
   some_scripts = subst (λ (l : List Word). (1 ≤ length l) × (length l ≤ 16)) (sym its_scripts) (one.1.some, one.1.most)
@@ -214,12 +214,12 @@ module _ (words : List Word) (device workers pages history : ℕ) (printing : Pr
       (subst (λ (n : Word). All (λ other. n ≢ other) (stream_names one.1.scripts)) (sym same) (device_apart one.1.device one.1.scripts one.1.different))
 
   -- any reading of the words as `run` names the same
-  module _ (w p h : ℕ) (c : Printing) (f : ℕ) (run : IsRun words w p h c f) where
+  module _ (w p h : ℕ) (c : Printing) (f : ℕ) (run : IsRun words w p h c b f) where
     pub same_device : (name : Word) → Some name ≡ slice_get words device → name ≡ run.device
-    same_device name is = let both = is ∙ ap (slice_get words) one.0 ∙ (keep_places.1 words w p h c f run).0 in ap value_of both
+    same_device name is = let both = is ∙ ap (slice_get words) one.0 ∙ (keep_places.1 words w p h c b f run).0 in ap value_of both
 
     pub same_scripts : drop first words ≡ run.scripts
-    same_scripts = ap (λ (n : ℕ). drop n words) (same_first words device workers pages history printing first one w p h c f run) ∙ (keep_places.1 words w p h c f run).1
+    same_scripts = ap (λ (n : ℕ). drop n words) (same_first words device workers pages history printing dump first one w p h c f run) ∙ (keep_places.1 words w p h c b f run).1
 
     -- what is reported of them
     pub runs_as : {D S K : Type 0} (moment : D → Moment) (source_state : S → SourceState) (sink_state : K → SinkState) (old new : ShelfState)
@@ -228,13 +228,13 @@ module _ (words : List Word) (device workers pages history : ℕ) (printing : Pr
         → RunsScripts (in_style c) moment source_state sink_state old new notice entries sessions free run.device run.scripts p h disk
     runs_as moment source_state sink_state old new notice entries sessions free disk name is runs =
         subst (λ (b : Printing). RunsScripts (in_style b) moment source_state sink_state old new notice entries sessions free run.device run.scripts p h disk)
-        (same_printing words device workers pages history printing first one w p h c f run)
+        (same_printing words device workers pages history printing dump first one w p h c f run)
         (subst (λ (w : Word). RunsScripts (in_style printing) moment source_state sink_state old new notice entries sessions free w run.scripts p h disk) (same_device name is)
         (subst (λ (l : List Word). RunsScripts (in_style printing) moment source_state sink_state old new notice entries sessions free name l p h disk) same_scripts
         (subst (λ (n : ℕ). RunsScripts (in_style printing) moment source_state sink_state old new notice entries sessions free name (drop first words) n h disk)
-        (same_pages words device workers pages history printing first one w p h c f run)
+        (same_pages words device workers pages history printing dump first one w p h c f run)
         (subst (λ (n : ℕ). RunsScripts (in_style printing) moment source_state sink_state old new notice entries sessions free name (drop first words) pages n disk)
-        (same_history words device workers pages history printing first one w p h c f run) runs))))
+        (same_history words device workers pages history printing dump first one w p h c f run) runs))))
 
 module _ (words : List Word) (device : ℕ) (one : IsForm words (Init device)) where
   pub init_device : slice_get words device ≡ Some one.1.device

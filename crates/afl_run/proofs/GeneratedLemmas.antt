@@ -67,7 +67,7 @@ module _ {K : Type 0} (sink_state : K → SinkState) (old now : ShelfState) (oth
     others = others;
     handed = record { replies = 0; handed = λ fits. omega (arith, handed); most = omega arith; reported = inl refl };
     none = λ is. (refl, inl refl, fails);
-    told = λ ran. absurd (ran refl);
+    told = λ ran. absurd (ran (refl, refl));
     disk = λ is. unopened_otherwise told (old.replies standard) old now fails (subst (λ (n : Notice). IsOfDisk n) (sym is) tt);
     damaged = λ page is. unopened_otherwise told (old.replies standard) old now fails (subst (λ (n : Notice). IsOfDisk n) (sym is) tt);
     complete = λ reply calm. opens_told told (old.replies standard) old now reply fails;
@@ -99,14 +99,14 @@ module _ {K : Type 0} (sink_state : K → SinkState) (old now : ShelfState) (oth
         reported = inl refl;
       };
       none = λ is. (unrun.nothing, empty_counts disk limits run empty history_given pages_given unrun.pages, inl memory);
-      told = λ ran. absurd (ran refl);
+      told = λ ran. absurd (ran (refl, refl));
       disk = λ is. absurd (cc (memory, is));
       damaged = λ page is. absurd (cc (memory, is));
       complete = λ reply calm. subst (λ (n : Notice). IsOfAnswers n) (sym memory) tt;
       one = λ ran. absurd (ran refl);
     }
 
-    module _ (end : Standing SureBytes) (over : RunsOver plain sure_disk_moment sure_source_state sink_state disk limits (own ∷ []) end run) where
+    module _ (end : Standing SureBytes) (over : RunsOver plain sure_disk_moment sure_source_state sink_state disk limits (own ∷ []) None end run None) where
       -- the session's streams are those that were opened
       generated_of : (report : SessionReport Reading K) → run.sessions ≡ report ∷ []
           → IsGenerated old script (sure_source_state report.source) (sink_state report.sink)
@@ -130,8 +130,8 @@ module _ {K : Type 0} (sink_state : K → SinkState) (old now : ShelfState) (oth
           let none : length run.sessions ≡ 0 = ap length is in
           absurd (omega (arith, many, none))
       over_of (Some report) is =
-          let one : IsOneHistory plain sure_disk_moment sure_source_state sink_state run.sessions run.notice run.history run.free_pages end =
-          one_history plain sure_disk_moment sure_source_state sink_state (own ∷ []) fresh disk limits run end over in
+          let one : IsOneHistory plain sure_disk_moment sure_source_state sink_state run.sessions None run.notice run.history run.free_pages end =
+          one_history plain sure_disk_moment sure_source_state sink_state (own ∷ []) fresh disk limits None tt run None end over in
           let database = began_empty sure_disk_moment disk limits end over.opened empty in
           record {
             opened = generated_of report is;
@@ -143,14 +143,14 @@ module _ {K : Type 0} (sink_state : K → SinkState) (old now : ShelfState) (oth
               reported = inr refl;
             };
             none = λ absent. absurd (cc (absent));
-            told = λ ran. subst (λ (rs : List (SessionReport Reading K)). (run.notice ≡ notices.Memory) ⊎ (run.notice ≡ notice_of rs)) is over.runs.told;
+            told = λ ran. subst (λ (rs : List (SessionReport Reading K)). (run.notice ≡ notices.Memory) ⊎ (run.notice ≡ notice_of rs None)) is over.runs.told;
             disk = λ fault. never_fails end one.causes fault;
             damaged = λ page fault. one.causes.damaged page fault [] database;
             complete = λ reply calm. answers_all run.sessions run.notice end one.causes [] database
                 (subst (λ (rs : List (SessionReport Reading K)). HaveNoFaults sure_source_state sink_state rs) (sym is) (calm_all report calm)) over.runs.told;
             one = λ ran. (
               end,
-              subst (λ (rs : List (SessionReport Reading K)). IsOneHistory plain sure_disk_moment sure_source_state sink_state rs run.notice run.history run.free_pages end) is one,
+              subst (λ (rs : List (SessionReport Reading K)). IsOneHistory plain sure_disk_moment sure_source_state sink_state rs None run.notice run.history run.free_pages end) is one,
               empty_began disk limits end over.opened empty history_given pages_given,
             );
           }
@@ -163,14 +163,14 @@ module _ {K : Type 0} (sink_state : K → SinkState) (old now : ShelfState) (oth
           calm_all report calm zero d within = (still report, calm)
           calm_all report calm (suc k) d within = absurd (omega (arith, within))
 
-    pub generates_ran : IsUnrun sure_disk_moment disk limits run ⊎ ((end : Standing SureBytes) × RunsOver plain sure_disk_moment sure_source_state sink_state disk limits (own ∷ []) end run)
+    pub generates_ran : IsUnrun sure_disk_moment disk limits run ⊎ ((end : Standing SureBytes) × RunsOver plain sure_disk_moment sure_source_state sink_state disk limits (own ∷ []) None end run None)
         → (g : Option (SessionReport Reading K)) → run.sessions ≡ listed g
         → RunsGenerate sure_disk_moment sure_source_state sink_state old now run.notice run.history g run.free_pages script
     generates_ran ran g is = elim ran [ inl unrun ↦ unrun_of unrun g is | inr over ↦ over_of over.0 over.1 g is ]
 
 -- at most one session ran
 pub few_sessions : {K : Type 0} (sink_state : K → SinkState) (disk : SureBytes) (limits : Limits) (own : Streams Reading K) (run : StoreRun SureBytes Reading K)
-    → IsUnrun sure_disk_moment disk limits run ⊎ ((end : Standing SureBytes) × RunsOver plain sure_disk_moment sure_source_state sink_state disk limits (own ∷ []) end run)
+    → IsUnrun sure_disk_moment disk limits run ⊎ ((end : Standing SureBytes) × RunsOver plain sure_disk_moment sure_source_state sink_state disk limits (own ∷ []) None end run None)
     → length run.sessions ≤ 1
 few_sessions sink_state disk limits own run ran = elim ran [
   | inl unrun ↦ let none : length run.sessions ≡ 0 = ap length unrun.none in omega (arith, none)

@@ -1,3 +1,4 @@
+pub mod BackupLemmas
 pub mod CauseLemmas
 pub mod CompleteLemmas
 pub mod FormLemmas

@@ -1,5 +1,5 @@
 -- What came of sessions over a disk.
-use Rattle.std.proofs.Common.{append_assoc, ◌≡◌, ◌⊎◌, ℕ, true, List, [], ◌++◌, length, inl, inr, sym, ◌∙◌, ap, subst}
+use Rattle.std.proofs.Common.{append_assoc, ◌≡◌, ◌⊎◌, ℕ, ◌+◌, true, List, [], ◌++◌, length, Option, None, Some, inl, inr, sym, ◌∙◌, ap, subst}
 use Rattle.std.specs.List.{list_all}
 use Rattle.std.proofs.lemmas.Bool.{and_from}
 use Rattle.std.proofs.lemmas.List.Folds.{list_all-append}
@@ -22,7 +22,10 @@ use Rattle.run_opening.specs.declared.reports.notices.Notice.{Notice}
 use Rattle.run_opening.specs.declared.reports.notices.Notice.TheVariants.{Memory}
 use Rattle.run_opening.specs.declared.reports.reports.SessionReport.{SessionReport}
 use Rattle.run_opening.specs.declared.reports.reports.Streams.{Streams}
-use Rattle.session_threads.specs.Sessions.{AreSessionsOf}
+use Rattle.session_threads.specs.Sessions.{seats_for, AreSessionsOf, HasBackup}
+use Rattle.run_opening.specs.declared.reports.reports.BackupEnd.{BackupEnd}
+use Rattle.run_opening.specs.declared.reports.reports.BackupReport.{BackupReport}
+use Rattle.afl_run.specs.Backups.{ended}
 use Rattle.session_threads.specs.Style.{Style}
 use Rattle.run_opening.specs.Began.{BeganOver, TellsUnopened}
 use Rattle.run_opening.specs.Ends.{IsClosed, IsReap}
@@ -55,6 +58,11 @@ still_others session seen old more new before none grown = (
   list_all-append _ before.0 more ∙ and_from (none_of owner_of session before.0) (none_of owner_of session more) before.2 none,
 )
 
+-- how a backup ended, under another name
+pub told_ended : {S K : Type 0} (notice : Notice) (reports : List (SessionReport S K)) (end : Option BackupEnd) (backup : Option (BackupReport K)) → end ≡ ended backup
+    → (notice ≡ Memory) ⊎ (notice ≡ notice_of reports end) → (notice ≡ Memory) ⊎ (notice ≡ notice_of reports (ended backup))
+told_ended notice reports end backup is told = subst (λ (e : Option BackupEnd). (notice ≡ Memory) ⊎ (notice ≡ notice_of reports e)) is told
+
 module _ {D S K : Type 0} (style : Style) (moment : D → Moment) (source_state : S → SourceState) (sink_state : K → SinkState) where
   reaped_later : (start : Start D) (streams : List (Streams S K)) (reports : List (SessionReport S K)) (old more new : List Event)
       → AreSessionsOf style moment source_state sink_state start streams reports old → IsReap more → new ≡ old ++ more
@@ -63,27 +71,46 @@ module _ {D S K : Type 0} (style : Style) (moment : D → Moment) (source_state 
       let h = each k own report within in
       record { seen = h.seen; sealed = h.sealed; later = still_others k h.seen old more new h.later (reap_is_nobodys k more reap) grown; serves = h.serves }
 
-  -- the sessions ran, and the store was closed
-  pub runs_to : (start : Start D) (streams : List (Streams S K)) (shared end : Standing D) (reports : List (SessionReport S K)) (run : StoreRun D S K)
+  backup_later : (start : Start D) (session : ℕ) (sink : Option K) (backup : Option (BackupReport K)) (old more new : List Event)
+      → HasBackup moment sink_state start session sink backup old → IsReap more → new ≡ old ++ more → HasBackup moment sink_state start session sink backup new
+  backup_later start session None None old more new has reap grown = tt
+  backup_later start session None (Some report) old more new has reap grown = absurd has
+  backup_later start session (Some sink) None old more new has reap grown = absurd has
+  backup_later start session (Some sink) (Some report) old more new has reap grown = record {
+    seen = has.seen;
+    sealed = has.sealed;
+    later = still_others session has.seen old more new has.later (reap_is_nobodys session more reap) grown;
+    dumped = has.dumped;
+  }
+
+  -- the sessions ran, and the backup, and the store was closed
+  pub runs_to : (start : Start D) (streams : List (Streams S K)) (sink : Option K) (shared end : Standing D) (reports : List (SessionReport S K)) (run : StoreRun D S K)
+      (backup : Option (BackupReport K))
       → HasTreeOrStop → start_of shared ≡ start → length reports ≡ length streams → AreSessionsOf style moment source_state sink_state start streams reports (events shared)
-      → AreOwnedBelow owner_of (length streams) (events shared) → (run.notice ≡ Memory) ⊎ (run.notice ≡ notice_of reports) → run.sessions ≡ reports → IsClosed moment shared end run
-      → RunsTo style moment source_state sink_state start streams end run
-  runs_to start streams shared end reports run trees began count each owned told is closed = record {
+      → HasBackup moment sink_state start (length streams) sink backup (events shared) → AreOwnedBelow owner_of (length streams + seats_for sink) (events shared)
+      → (run.notice ≡ Memory) ⊎ (run.notice ≡ notice_of reports (ended backup)) → run.sessions ≡ reports → IsClosed moment shared end run
+      → RunsTo style moment source_state sink_state start streams sink end run backup
+  runs_to start streams sink shared end reports run backup trees began count each dumped owned told is closed = record {
     began = closed.start ∙ began;
     ends = closed.ends;
     count = ap length is ∙ count;
     each = subst (λ (rs : List (SessionReport S K)). AreSessionsOf style moment source_state sink_state start streams rs (events end)) (sym is)
         later;
-    others = still_owned (length streams) (events shared) closed.more (events end) owned closed.reap closed.grown;
-    told = subst (λ (rs : List (SessionReport S K)). (run.notice ≡ Memory) ⊎ (run.notice ≡ notice_of rs)) (sym is) told;
-    disk = λ tells. rose_for moment end closed.ends.ledger (tells_disk trees style moment source_state sink_state start streams reports (events end) count later run.notice told tells)
-        closed.ends.counted;
-    damaged = λ page tells db began_as. tells_damage trees style moment source_state sink_state start streams reports (events end) count later run.notice told page tells db
+    dumped = still;
+    others = still_owned (length streams + seats_for sink) (events shared) closed.more (events end) owned closed.reap closed.grown;
+    told = subst (λ (rs : List (SessionReport S K)). (run.notice ≡ Memory) ⊎ (run.notice ≡ notice_of rs (ended backup))) (sym is) told;
+    disk = λ tells. rose_for moment end closed.ends.ledger
+        (tells_disk trees style moment source_state sink_state start streams reports sink backup (events end) count later still run.notice told tells) closed.ends.counted;
+    damaged = λ page tells db began_as. tells_damage trees style moment source_state sink_state start streams reports sink backup (events end) count later still run.notice told page
+        tells db
         (subst (λ (s : Start D). BeganAs (moment s.opened.disk).state db) (closed.start ∙ began) began_as);
   }
     where
       later : AreSessionsOf style moment source_state sink_state start streams reports (events end)
       later = reaped_later start streams reports (events shared) closed.more (events end) each closed.reap closed.grown
+
+      still : HasBackup moment sink_state start (length streams) sink backup (events end)
+      still = backup_later start (length streams) sink backup (events shared) closed.more (events end) dumped closed.reap closed.grown
 
   -- no session ran over a store that was opened
   lacks_memory : (disk : D) (limits : Limits) (store : Standing D) (run : StoreRun D S K) → BeganOver moment disk limits (start_of store) → store.ledger.entries ≡ []
@@ -97,31 +124,34 @@ module _ {D S K : Type 0} (style : Style) (moment : D → Moment) (source_state 
     syncs = subst (λ (d : D). OnlySyncs (moment disk) (moment d)) (sym lacks.is_disk) reads;
   }
 
-  pub runs_over : (disk : D) (limits : Limits) (streams : List (Streams S K)) (store end : Standing D) (run : StoreRun D S K)
-      → BeganOver moment disk limits (start_of store) → RunsTo style moment source_state sink_state (start_of store) streams end run
-      → RunsOver style moment source_state sink_state disk limits streams end run
-  runs_over disk limits streams store end run began runs = record {
+  pub runs_over : (disk : D) (limits : Limits) (streams : List (Streams S K)) (sink : Option K) (store end : Standing D) (run : StoreRun D S K)
+      (backup : Option (BackupReport K)) → BeganOver moment disk limits (start_of store)
+      → RunsTo style moment source_state sink_state (start_of store) streams sink end run backup
+      → RunsOver style moment source_state sink_state disk limits streams sink end run backup
+  runs_over disk limits streams sink store end run backup began runs = record {
     opened = subst (λ (start : Start D). BeganOver moment disk limits start) (sym runs.began) began;
-    runs = subst (λ (start : Start D). RunsTo style moment source_state sink_state start streams end run) (sym runs.began) runs;
+    runs = subst (λ (start : Start D). RunsTo style moment source_state sink_state start streams sink end run backup) (sym runs.began) runs;
   }
 
-  pub over : (disk : D) (limits : Limits) (streams : List (Streams S K)) (store : Standing D) (run : StoreRun D S K) → BeganOver moment disk limits (start_of store)
-      → store.ledger.entries ≡ [] → OnlySyncs (moment disk) (moment store.disk) → LacksMemory store run ⊎ ((end : Standing D) × RunsTo style moment source_state sink_state (start_of store) streams end run)
-      → IsUnrun moment disk limits run ⊎ ((end : Standing D) × RunsOver style moment source_state sink_state disk limits streams end run)
-  over disk limits streams store run began entries reads ran = elim ran [
-    | inl lacks ↦ inl (lacks_memory disk limits store run began entries reads lacks)
-    | inr runs ↦ inr (runs.0, runs_over disk limits streams store runs.0 run began runs.1)
+  pub over : (disk : D) (limits : Limits) (streams : List (Streams S K)) (sink : Option K) (store : Standing D) (run : StoreRun D S K) (backup : Option (BackupReport K))
+      → BeganOver moment disk limits (start_of store) → store.ledger.entries ≡ [] → OnlySyncs (moment disk) (moment store.disk)
+      → (LacksMemory store run × (backup ≡ None)) ⊎ ((end : Standing D) × RunsTo style moment source_state sink_state (start_of store) streams sink end run backup)
+      → (IsUnrun moment disk limits run × (backup ≡ None)) ⊎ ((end : Standing D) × RunsOver style moment source_state sink_state disk limits streams sink end run backup)
+  over disk limits streams sink store run backup began entries reads ran = elim ran [
+    | inl lacks ↦ inl (lacks_memory disk limits store run began entries reads lacks.0, lacks.1)
+    | inr runs ↦ inr (runs.0, runs_over disk limits streams sink store runs.0 run backup began runs.1)
   ]
 
   -- the disk that is handed back is the one that was opened, some calls later
-  pub disk_goes_on : (disk : D) (limits : Limits) (streams : List (Streams S K)) (store : Standing D) (run : StoreRun D S K) → BeganOver moment disk limits (start_of store)
-      → DiskGoesOn (moment disk).state (moment store.disk).state → LacksMemory store run ⊎ ((end : Standing D) × RunsTo style moment source_state sink_state (start_of store) streams end run)
+  pub disk_goes_on : (disk : D) (limits : Limits) (streams : List (Streams S K)) (sink : Option K) (store : Standing D) (run : StoreRun D S K)
+      (backup : Option (BackupReport K)) → BeganOver moment disk limits (start_of store) → DiskGoesOn (moment disk).state (moment store.disk).state
+      → (LacksMemory store run × (backup ≡ None)) ⊎ ((end : Standing D) × RunsTo style moment source_state sink_state (start_of store) streams sink end run backup)
       → DiskGoesOn (moment disk).state (moment run.disk).state
-  disk_goes_on disk limits streams store run began same ran = elim ran [
-    | inl lacks ↦ subst (λ (d : D). DiskGoesOn (moment disk).state (moment d).state) (sym lacks.is_disk) same
+  disk_goes_on disk limits streams sink store run backup began same ran = elim ran [
+    | inl lacks ↦ subst (λ (d : D). DiskGoesOn (moment disk).state (moment d).state) (sym lacks.0.is_disk) same
     | inr runs ↦
         let end = runs.0 in
-        let over = runs_over disk limits streams store end run began runs.1 in
+        let over = runs_over disk limits streams sink store end run backup began runs.1 in
         subst (λ (d : D). DiskGoesOn (moment disk).state (moment d).state) (sym over.runs.ends.is_disk)
         (goes (moment disk).state (moment end.opened.disk).state (moment end.disk).state over.opened.synced.same over.runs.ends.goes_on)
   ]
@@ -148,3 +178,10 @@ module _ {D S K : Type 0} (style : Style) (moment : D → Moment) (source_state 
     unwritten = ap (λ (r : StoreRun D S K). (moment r.disk).state.seen) is ∙ reads.seen;
     syncs = subst (λ (r : StoreRun D S K). OnlySyncs (moment old) (moment r.disk)) (sym is) reads;
   }
+
+  -- no backup was made where there is no sink for one
+  pub without_backup : (disk : D) (limits : Limits) (streams : List (Streams S K)) (run : StoreRun D S K) (backup : Option (BackupReport K))
+      → (IsUnrun moment disk limits run × (backup ≡ None)) ⊎ ((end : Standing D) × RunsOver style moment source_state sink_state disk limits streams None end run backup)
+      → IsUnrun moment disk limits run ⊎ ((end : Standing D) × RunsOver style moment source_state sink_state disk limits streams None end run None)
+  without_backup disk limits streams run None ran = elim ran [ inl unrun ↦ inl unrun.0 | inr over ↦ inr over ]
+  without_backup disk limits streams run (Some report) ran = elim ran [ inl unrun ↦ absurd (let is = unrun.1 in cc) | inr over ↦ absurd over.1.runs.dumped ]

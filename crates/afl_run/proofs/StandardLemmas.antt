@@ -127,12 +127,12 @@ opens_if_told told old now script reply fails = elim fails [
 
 -- a disk in memory never fails
 pub never_fails : {S K : Type 0} {source_state : S → SourceState} {sink_state : K → SinkState} {sessions : List (SessionReport S K)} {notice : Notice} (end : Standing SureBytes)
-    → HasCause sure_disk_moment source_state sink_state sessions notice end → notice ≡ notices.Disk → ⊥
+    → HasCause sure_disk_moment source_state sink_state sessions None notice end → notice ≡ notices.Disk → ⊥
 never_fails end causes is = let rose : risen 0 ≤ 0 = causes.disk is in absurd (omega (arith, rose))
 
 pub answers_all : {S K : Type 0} {source_state : S → SourceState} {sink_state : K → SinkState} (sessions : List (SessionReport S K)) (notice : Notice) (end : Standing SureBytes)
     → HasCause sure_disk_moment source_state sink_state sessions notice end → (db : Database) → BeganAs (sure_disk_moment end.opened.disk).state db
-    → HaveNoFaults source_state sink_state sessions → (notice ≡ notices.Memory) ⊎ (notice ≡ notice_of sessions) → IsOfAnswers notice
+    → HaveNoFaults source_state sink_state sessions → (notice ≡ notices.Memory) ⊎ (notice ≡ notice_of sessions None) → IsOfAnswers notice
 answers_all sessions notice end causes db database calm told =
     answered sessions notice end causes (never_fails end causes) (λ page is. causes.damaged page is db database) calm told
 
@@ -154,7 +154,7 @@ module _ {S K : Type 0} (source_state : S → SourceState) (sink_state : K → S
       reported = inl refl;
     };
     none = λ is. (refl, inl refl, fails);
-    told = λ ran. absurd (ran refl);
+    told = λ ran. absurd (ran (refl, refl));
     one = λ ran. absurd (ran refl);
   }
 
@@ -176,16 +176,16 @@ module _ {S K : Type 0} (source_state : S → SourceState) (sink_state : K → S
         reported = inl (ap length unrun.none);
       };
       none = λ is. (unrun.nothing, empty_counts disk limits run empty history_given pages_given unrun.pages, inl memory);
-      told = λ ran. absurd (ran unrun.none);
+      told = λ ran. absurd (ran (unrun.none, refl));
       one = λ ran. absurd (ran unrun.none);
     }
 
-    tries_over : (end : Standing SureBytes) → RunsOver plain sure_disk_moment source_state sink_state disk limits streams end run
+    tries_over : (end : Standing SureBytes) → RunsOver plain sure_disk_moment source_state sink_state disk limits streams None end run None
         → RunsTry sure_disk_moment source_state sink_state old now run.notice run.history run.sessions run.free_pages
     tries_over end over =
         let many : length run.sessions ≡ length streams = over.runs.count in
         let all : length streams ≡ 1 = zip_length (IsOpenedFor source_state sink_state old) (standard ∷ []) streams opened in
-        let one = one_history plain sure_disk_moment source_state sink_state streams (opened_fresh plain sure_disk_moment source_state sink_state old (standard ∷ []) streams opened) disk limits run end over in
+        let one = one_history plain sure_disk_moment source_state sink_state streams (opened_fresh plain sure_disk_moment source_state sink_state old (standard ∷ []) streams opened) disk limits None tt run None end over in
         let database = began_empty sure_disk_moment disk limits end over.opened empty in
         record {
           first = λ is. let none : length run.sessions ≡ 0 = ap length is in absurd (omega (arith, many, all, none));
@@ -205,7 +205,7 @@ module _ {S K : Type 0} (source_state : S → SourceState) (sink_state : K → S
           one = λ ran. (end, one, empty_began disk limits end over.opened empty history_given pages_given);
         }
 
-    pub tries_ran : IsUnrun sure_disk_moment disk limits run ⊎ ((end : Standing SureBytes) × RunsOver plain sure_disk_moment source_state sink_state disk limits streams end run)
+    pub tries_ran : IsUnrun sure_disk_moment disk limits run ⊎ ((end : Standing SureBytes) × RunsOver plain sure_disk_moment source_state sink_state disk limits streams None end run None)
         → RunsTry sure_disk_moment source_state sink_state old now run.notice run.history run.sessions run.free_pages
     tries_ran ran = elim ran [ inl unrun ↦ tries_unrun unrun | inr over ↦ tries_over over.0 over.1 ]
 

@@ -148,9 +148,19 @@ module _ {D S K : Type 0} (style : Style) (moment : D → Moment) (source_state 
           | inr sink ↦ inr (p.sink_fault sink)
         ])
 
-  pub one_history : (disk : D) (limits : Limits) (run : StoreRun D S K) (end : Standing D) → RunsOver style moment source_state sink_state disk limits streams end run
-      → IsOneHistory style moment source_state sink_state run.sessions run.notice run.history run.free_pages end
-  one_history disk limits run end over = record {
+  module _ (given : Option K) (fresh_sink : IfSome given (λ sink. (name : Word) × IsNewSink name (sink_state sink))) (backup : Option (BackupReport K)) where
+    backup_of : (start : Start D) (session : ℕ) (all : List Event) → HasBackup moment sink_state start session given backup all
+        → IfSome backup (λ report. IsBackupReportOf moment sink_state start session report all)
+    backup_of start session all has = has_reported moment sink_state start session given backup all fresh_sink has
+
+    broken_backup_rose : (start : Start D) (session : ℕ) (all : List Event) → HasBackup moment sink_state start session given backup all
+        → ended backup ≡ Some backups.Sink → IsSomeAnd backup (λ report. Rose 0 (sink_state report.sink).faults)
+    broken_backup_rose start session all has is = sink_rose moment sink_state start session given backup all fresh_sink has is
+
+  pub one_history : (disk : D) (limits : Limits) (given : Option K) (fresh_sink : IfSome given (λ sink. (name : Word) × IsNewSink name (sink_state sink)))
+      (run : StoreRun D S K) (backup : Option (BackupReport K)) (end : Standing D) → RunsOver style moment source_state sink_state disk limits streams given end run backup
+      → IsOneHistory style moment source_state sink_state run.sessions backup run.notice run.history run.free_pages end
+  one_history disk limits given fresh_sink run backup end over = record {
     is_history = over.runs.ends.is_history;
     ledger = over.runs.ends.ledger;
     each = report_prints (start_of end) run.sessions end over.runs.count over.runs.each;
@@ -161,10 +171,16 @@ module _ {D S K : Type 0} (style : Style) (moment : D → Moment) (source_state 
       damaged = over.runs.damaged;
       stream = λ session is. elim over.runs.told [
         | inl memory ↦ absurd (cc (memory, is))
-        | inr after ↦ broken_off (start_of end) run.sessions end over.runs.count over.runs.each session (is_stream run.sessions run.notice after session is)
+        | inr after ↦ elim (is_stream run.sessions (ended backup) run.notice after session is) [
+          | inl first ↦ inl (broken_off (start_of end) run.sessions end over.runs.count over.runs.each session first)
+          | inr own ↦ inr (own.0, broken_backup_rose given fresh_sink backup (start_of end) (length streams) (events end) over.runs.dumped own.1)
+        ]
       ];
     };
-    others = subst (λ (n : ℕ). AreOwnedBelow owner_of n (events end)) (sym over.runs.count) over.runs.others;
+    dumped = subst (λ (n : ℕ). IfSome backup (λ report. IsBackupReportOf moment sink_state (start_of end) n report (events end))) (sym over.runs.count)
+        (backup_of given fresh_sink backup (start_of end) (length streams) (events end) over.runs.dumped);
+    others = subst (λ (n : ℕ). AreOwnedBelow owner_of n (events end))
+        (as_many_in_all moment sink_state (start_of end) given backup (events end) (length run.sessions) (length streams) over.runs.count over.runs.dumped) over.runs.others;
     pages = over.runs.ends.pages;
     reaped = over.runs.ends.reaped;
     doubt = over.runs.ends.doubt;

@@ -36,11 +36,11 @@ pub record RunsGenerate {D S K : Type 0} (moment : D → Moment) (source_state :
   pub handed : HandsOutStreams 0 1 (length (listed generated)) old new
   pub none : generated ≡ None → (history ≡ []) × CountsPages (BeganEmpty moment) notice free
       × ((notice ≡ notices.Memory) ⊎ FailsFor 0 (old.replies standard) notice old new)
-  pub told : TellsSessions notice (listed generated)
+  pub told : TellsSessions notice (listed generated) None
   -- its disk never fails, and is never damaged
   pub disk : notice ≢ notices.Disk
   pub damaged : (page : ℕ) → notice ≢ notices.Damaged page
   -- where the shelf tells that it opens the standard output, and no count of it rose, the script was answered, but for memory
   pub complete : IsSome (old.replies standard) → IfSome generated (λ report. Rose 0 (sink_state report.sink).faults → ⊥) → IsOfAnswers notice
-  pub one : generated ≢ None → (store : Standing D) × IsOneHistory plain moment source_state sink_state (listed generated) notice history free store
+  pub one : generated ≢ None → (store : Standing D) × IsOneHistory plain moment source_state sink_state (listed generated) None notice history free store
       × BeganEmpty moment store

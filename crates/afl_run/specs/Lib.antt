@@ -1,6 +1,10 @@
+pub mod Backups
+pub mod Checks
+pub mod Forms
 pub mod Generate
 pub mod Init
 pub mod Inner
 pub mod OneHistory
 pub mod Printed
+pub mod Restores
 pub mod Run

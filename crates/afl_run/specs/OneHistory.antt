@@ -1,5 +1,5 @@
 -- ONE HISTORY: what a run over a store tells at its end.
-use Rattle.std.specs.Prelude.{◌≡◌, ◌⊎◌, ℕ, ◌<◌, false, List, [], length, slice_get, slice_index_or, IfSome, IsSomeAnd, IsTrue}
+use Rattle.std.specs.Prelude.{◌≡◌, ◌⊎◌, ℕ, ◌<◌, false, List, [], length, slice_get, slice_index_or, ◌+◌, Option, IfSome, IsSomeAnd, IsTrue}
 use Rattle.std.specs.List.{list_all}
 use Rattle.afl_outside.specs.Counts.{Rose}
 use Rattle.afl_outside.specs.Disk.{Moment}
@@ -25,16 +25,25 @@ use Rattle.session_threads.specs.Histories.{IsMarkedIn}
 use Rattle.session_threads.specs.Marked.{IsMarked}
 use Rattle.session_threads.specs.Style.{Style}
 use Rattle.run_opening.specs.Held.{HoldsHistory}
+use Rattle.afl_run.specs.Backups.{IsBackupReportOf}
 use Rattle.run_opening.specs.Kept.{HasFailed}
 use Rattle.afl_run.specs.Printed.{Prints}
+use Rattle.run_opening.specs.declared.reports.reports.BackupReport.{BackupReport}
+use Rattle.session_threads.specs.Sessions.{seats_for}
 
 module _ {D S K : Type 0} (moment : D → Moment) (source_state : S → SourceState) (sink_state : K → SinkState) where
-  -- WHAT THE NOTICE OF SESSIONS SAYS HAS ITS CAUSE: the disk's count rose; the file began as no database; a count of the session's streams rose
-  pub record HasCause (sessions : List (SessionReport S K)) (notice : Notice) (store : Standing D) : Type 0 where
+  -- the count of the backup's sink rose
+  abbrev pub BreaksBackup : Option (BackupReport K) → Type 0
+  BreaksBackup backup = IsSomeAnd backup (λ report. Rose 0 (sink_state report.sink).faults)
+
+  -- WHAT THE NOTICE OF SESSIONS SAYS HAS ITS CAUSE: the disk's count rose; the file began as no database; a count of the session's streams rose, or
+  -- that of the sink of the backup, whose number is the one behind the sessions
+  pub record HasCause (sessions : List (SessionReport S K)) (backup : Option (BackupReport K)) (notice : Notice) (store : Standing D) : Type 0 where
     pub disk : notice ≡ Disk → Rose (moment store.opened.disk).state.faults (moment store.disk).state.faults
     pub damaged : (page : ℕ) → notice ≡ Damaged page → (db : Database) → BeganAs (moment store.opened.disk).state db → ⊥
     pub stream : (session : ℕ) → notice ≡ Stream session
         → IsSomeAnd (slice_get sessions session) (λ report. Rose 0 (source_state report.source).faults ⊎ Rose 0 (sink_state report.sink).faults)
+        ⊎ ((session ≡ length sessions) × BreaksBackup backup)
 
 module _ {D S K : Type 0} (style : Style) (moment : D → Moment) (source_state : S → SourceState) (sink_state : K → SinkState) where
   -- A SESSION OVER ONE HISTORY: what it had seen at its end is a beginning of the history, in which each commit was acknowledged; none of what came
@@ -48,19 +57,21 @@ module _ {D S K : Type 0} (style : Style) (moment : D → Moment) (source_state 
     pub in_history : Prints (IsMarkedIn style moment start session history) [] 0 seen (source_state report.source) (sink_state report.sink) report.marks report.end
 
   -- THE REPORTS OF A RUN ARE THOSE OF ONE HISTORY, which is that of its store at its end
-  pub record IsOneHistory (sessions : List (SessionReport S K)) (notice : Notice) (history : List Entry) (free : ℕ) (store : Standing D) : Type 0 where
+  pub record IsOneHistory (sessions : List (SessionReport S K)) (backup : Option (BackupReport K)) (notice : Notice) (history : List Entry) (free : ℕ) (store : Standing D) : Type 0 where
     pub is_history : history ≡ store.ledger.entries
     pub ledger : IsLedger store.ledger
     pub ordered : IsOrdered store.ledger.base (history_of store.ledger)
     pub each : (k : ℕ) (other : SessionReport S K) → k < length sessions → IsReportOf (start_of store) k (slice_index_or sessions k other) (events store)
-    -- nothing else is in it: each event is of one of the sessions, or of nobody
-    pub others : AreOwnedBelow owner_of (length sessions) (events store)
+    -- the backup is one more session, behind them
+    pub dumped : IfSome backup (λ report. IsBackupReportOf moment sink_state (start_of store) (length sessions) report (events store))
+    -- nothing else is in it: each event is of one of the sessions, of the backup's, or of nobody
+    pub others : AreOwnedBelow owner_of (length sessions + seats_for backup) (events store)
     -- no more replies tell of a failing disk than its count rose by, unless it stands at its last value: each has a note of its own
     pub counted : AreCounted (moment store.opened.disk).state.faults (moment store.disk).state.faults store.ledger.notes
     pub pages : free ≡ length (unused_pages store.ledger)
     -- each page that nobody can name is free, or one more entry would pass the limit
     pub reaped : (notice ≡ Memory → ⊥) → reap_comes store.ledger ≡ false
-    pub causes : HasCause moment source_state sink_state sessions notice store
+    pub causes : HasCause moment source_state sink_state sessions backup notice store
     -- a change is in doubt only where a call of the disk failed
     pub doubt : IfSome store.doubt (λ _. HasFailed (moment store.opened.disk).state (moment store.disk).state)
     pub cells : (db : Database) → BeganAs (moment store.opened.disk).state db → HoldsHistory moment store db

@@ -1,5 +1,5 @@
 -- What the top call reports, by the words.
-use Rattle.std.specs.Prelude.{◌≡◌, ◌≢◌, ◌⊎◌, ℕ, ◌+◌, ◌≤◌, false, List, [], ◌∷◌, length, All, Option, None, Some, IfSome, IsSome, IsTrue}
+use Rattle.std.specs.Prelude.{◌≡◌, ◌≢◌, ◌⊎◌, ℕ, ◌+◌, ◌≤◌, false, List, [], ◌∷◌, ◌++◌, length, All, Option, None, Some, IfSome, IsSome, IsTrue}
 use Rattle.std.specs.List.{AllZip}
 use Rattle.afl_outside.specs.Counts.{Rose}
 use Rattle.afl_outside.specs.Disk.{DiskState, IsNewDisk, Moment}
@@ -16,12 +16,15 @@ use Rattle.store_state.specs.Standings.{BeganAs, Standing}
 use Rattle.run_opening.specs.Names.{Word, reply_name, standard, stream_names}
 use Rattle.run_opening.specs.Opened.{FailsToOpen, FailsToOpenDevice, HandsOut, IsOpenedDevice, LeavesUnasked, StopsAt}
 use Rattle.run_opening.specs.Outcomes.{notice_of}
+use Rattle.run_opening.specs.declared.reports.reports.BackupReport.{BackupReport}
 use Rattle.run_opening.specs.declared.reports.reports.SessionReport.{SessionReport}
 use Rattle.run_opening.specs.declared.reports.notices.Notice.{Notice}
 use Rattle.run_opening.specs.declared.reports.notices.Notice.TheVariants as notices
 use Rattle.run_opening.specs.Began.{IsOpenedFrom}
 use Rattle.run_opening.specs.Starts.{start_of}
 use Rattle.session_threads.specs.Style.{Style}
+use Rattle.afl_run.specs.Backups.{IsBackupOpenedAs, ended}
+use Rattle.session_threads.specs.Sessions.{seats_for}
 use Rattle.afl_run.specs.Init.{TellsDevice, notice_by}
 use Rattle.afl_run.specs.OneHistory.{IsOneHistory}
 use Rattle.afl_run.specs.Printed.{IsOpenedAs}
@@ -43,17 +46,27 @@ pub record HandsOutStreams (devices scripts reports : ℕ) (old new : ShelfState
   pub most : replies ≤ scripts
   pub reported : (reports ≡ 0) ⊎ (replies ≡ reports)
 
+-- the reply of the backup, whose number is the one behind the scripts, was not opened: a count of the shelf rose, which hadn't told that it opens it
+abbrev pub FailsToOpenBackup : List Word → List Word → ℕ → ShelfState → ShelfState → Type 0
+FailsToOpenBackup scripts backups session old new = (session ≡ length scripts) × Rose old.faults new.faults × All (λ name. old.replies name ≡ None) backups
+    × (backups ≢ [])
+
+-- no session ran, and no backup was made
+abbrev pub HasNoReport : {S K : Type 0} → List (SessionReport S K) → Option (BackupReport K) → Type 0
+HasNoReport sessions backup = (sessions ≡ []) × (backup ≡ None)
+
 -- Where no session ran, of the device if it was opened: its count rose, or what it began with is no database, first at this page; or else of the shelf.
 -- Want of memory tells nothing
-abbrev pub TellsUnrun : Notice → Word → List Word → Option DiskState → ShelfState → ShelfState → Type 0
-TellsUnrun notices.Memory asked scripts device old new = Unit {0}
-TellsUnrun notices.Disk asked scripts None old new = FailsToOpenDevice asked notices.Disk old new
-TellsUnrun notices.Disk asked scripts (Some disk) old new = Rose 0 disk.faults
-TellsUnrun (notices.Stream session) asked scripts None old new = ⊥
-TellsUnrun (notices.Stream session) asked scripts (Some disk) old new = FailsToOpen scripts (notices.Stream session) old new
-TellsUnrun (notices.NotDatabase page) asked scripts None old new = ⊥
-TellsUnrun (notices.NotDatabase page) asked scripts (Some disk) old new = IfSome disk.first (IsWrongAt page)
-TellsUnrun _ asked scripts device old new = ⊥
+abbrev pub TellsUnrun : Notice → Word → List Word → List Word → Option DiskState → ShelfState → ShelfState → Type 0
+TellsUnrun notices.Memory asked scripts backups device old new = Unit {0}
+TellsUnrun notices.Disk asked scripts backups None old new = FailsToOpenDevice asked notices.Disk old new
+TellsUnrun notices.Disk asked scripts backups (Some disk) old new = Rose 0 disk.faults
+TellsUnrun (notices.Stream session) asked scripts backups None old new = ⊥
+TellsUnrun (notices.Stream session) asked scripts backups (Some disk) old new =
+    FailsToOpen scripts (notices.Stream session) old new ⊎ FailsToOpenBackup scripts backups session old new
+TellsUnrun (notices.NotDatabase page) asked scripts backups None old new = ⊥
+TellsUnrun (notices.NotDatabase page) asked scripts backups (Some disk) old new = IfSome disk.first (IsWrongAt page)
+TellsUnrun _ asked scripts backups device old new = ⊥
 
 -- a notice of the store, where the device was opened
 abbrev pub IsOfStore : Notice → Type 0
@@ -81,8 +94,8 @@ AreOfScripts source_state sink_state shelf scripts sessions =
     (sessions ≡ []) ⊎ AllZip (λ script report. IsOpenedAs shelf script (source_state report.source) (sink_state report.sink)) scripts sessions
 
 -- after the sessions the notice is what is told of them, unless memory was short
-abbrev pub TellsSessions : {S K : Type 0} → Notice → List (SessionReport S K) → Type 0
-TellsSessions notice sessions = sessions ≢ [] → (notice ≡ notices.Memory) ⊎ (notice ≡ notice_of sessions)
+abbrev pub TellsSessions : {S K : Type 0} → Notice → List (SessionReport S K) → Option (BackupReport K) → Type 0
+TellsSessions notice sessions backup = (HasNoReport sessions backup → ⊥) → (notice ≡ notices.Memory) ⊎ (notice ≡ notice_of sessions (ended backup))
 
 -- the store was opened over the bytes with which the device began, as what they open as: their root and its log, their versions and their base; within
 -- these limits. And the device is handed back
@@ -132,32 +145,37 @@ CountsPages {D} Began notice free = (free ≡ 0)
     ⊎ ((notice ≡ notices.Memory) × ((store : Standing D) × Began store × (store.ledger.entries ≡ []) × (free ≡ length (unused_pages store.ledger))))
 
 module _ {D S K : Type 0} (style : Style) (moment : D → Moment) (source_state : S → SourceState) (sink_state : K → SinkState) (old new : ShelfState)
-    (notice : Notice) (history : List Entry) (sessions : List (SessionReport S K)) (free : ℕ) where
-  -- SESSIONS OVER A DEVICE, by the words of `run`, whose replies are printed in this style
-  pub record RunsScripts (asked : Word) (scripts : List Word) (pages limit : ℕ) (device : Option D) : Type 0 where
+    (notice : Notice) (history : List Entry) (sessions : List (SessionReport S K)) (backup : Option (BackupReport K)) (free : ℕ) where
+  -- SESSIONS AND A BACKUP OVER A DEVICE, by the words of `run` or `dump`, whose replies are printed in this style. Of backups there is one name, or none
+  pub record RunsScripts (asked : Word) (scripts backups : List Word) (pages limit : ℕ) (device : Option D) : Type 0 where
     pub opened : AreOfScripts source_state sink_state old scripts sessions
+    pub backup_opened : IfSome backup (λ report. All (λ name. IsBackupOpenedAs old name (sink_state report.sink)) backups)
+    -- a backup that is asked for is made where sessions run, and no other is
+    pub backed_up : (HasNoReport sessions backup → ⊥) → (length sessions ≡ length scripts) × (seats_for backup ≡ length backups)
     pub is_asked : IfSome device (λ disk. IsOpenedDevice asked old (moment disk).state)
-    pub others : LeavesUnasked (asked ∷ stream_names scripts) old new
-    pub handed : HandsOutStreams (devices_in device) (length scripts) (length sessions) old new
-    pub in_order : HandsOutInOrder device (length scripts) notice old new
-    -- once the device was opened, the first stream that failed decided, and nothing behind it was asked for
-    pub first : sessions ≡ [] → IfSome device (λ _. (opened : ShelfState) × LeavesOthers asked old opened × HandsOut 1 old opened
-        × StopsAt source_state sink_state scripts opened new notice)
+    pub others : LeavesUnasked (asked ∷ (stream_names scripts ++ backups)) old new
+    pub handed : HandsOutStreams (devices_in device) (length scripts + length backups) (length sessions + seats_for backup) old new
+    pub in_order : HandsOutInOrder device (length scripts + length backups) notice old new
+    -- once the device was opened, the first stream that failed decided, and nothing behind it was asked for: the reply of the backup comes last
+    pub first : HasNoReport sessions backup → IfSome device (λ _. (opened : ShelfState) × LeavesOthers asked old opened × HandsOut 1 old opened
+        × (StopsAt source_state sink_state scripts opened new notice ⊎ FailsToOpenBackup scripts backups (length scripts) opened new))
     -- without a device nothing else was asked for
     pub unasked : device ≡ None → LeavesOthers asked old new
     -- where no session ran, the device reads as it began
-    pub unwritten : sessions ≡ [] → IfSome device (λ disk. (moment disk).state.seen ≡ (moment disk).state.first)
-    pub none : sessions ≡ [] → (history ≡ []) × CountsPages (BeganFrom moment pages limit device) notice free
-        × TellsUnrun notice asked scripts (state_in moment device) old new
-    pub told : TellsSessions notice sessions
-    pub one : sessions ≢ [] → (store : Standing D) × IsOneHistory style moment source_state sink_state sessions notice history free store
-        × BeganFrom moment pages limit device store × WasOnlyRead moment asked (moment store.opened.disk)
+    pub unwritten : HasNoReport sessions backup → IfSome device (λ disk. (moment disk).state.seen ≡ (moment disk).state.first)
+    pub none : HasNoReport sessions backup → (history ≡ []) × CountsPages (BeganFrom moment pages limit device) notice free
+        × TellsUnrun notice asked scripts backups (state_in moment device) old new
+    pub told : TellsSessions notice sessions backup
+    pub one : (HasNoReport sessions backup → ⊥) → (store : Standing D)
+        × IsOneHistory style moment source_state sink_state sessions backup notice history free store × BeganFrom moment pages limit device store
+        × WasOnlyRead moment asked (moment store.opened.disk)
     -- where no session ran, the device was only read
-    pub untouched : sessions ≡ [] → IfSome device (λ disk. WasOnlyRead moment asked (moment disk))
-    -- where the shelf tells that it opens all that is asked for, the device began as a database, and no count rose, the scripts were answered, but
-    -- for memory
-    pub complete : IsSome (old.devices asked) → OpensStreams old scripts → IfSome device (λ disk. IsSoundDevice (moment disk).state)
-        → HaveNoFaults source_state sink_state sessions → IsOfAnswers notice
+    pub untouched : HasNoReport sessions backup → IfSome device (λ disk. WasOnlyRead moment asked (moment disk))
+    -- where the shelf tells that it opens all that is asked for, the device began as a database, and no count rose, the scripts were answered and the
+    -- backup made, but for memory
+    pub complete : IsSome (old.devices asked) → OpensStreams old scripts → All (λ name. IsSome (old.replies name)) backups
+        → IfSome device (λ disk. IsSoundDevice (moment disk).state) → HaveNoFaults source_state sink_state sessions
+        → IfSome backup (λ report. Rose 0 (sink_state report.sink).faults → ⊥) → IsOfAnswers notice
 
 -- the replies of a run whose words ask for no other style
 abbrev pub plain : Style
@@ -172,7 +190,7 @@ module _ {D S K : Type 0} (moment : D → Moment) (source_state : S → SourceSt
     pub handed : HandsOutStreams 0 1 (length sessions) old new
     pub none : sessions ≡ [] → (history ≡ []) × CountsPages (BeganEmpty moment) notice free
         × ((notice ≡ notices.Memory) ⊎ FailsToOpen (standard ∷ []) notice old new)
-    pub told : TellsSessions notice sessions
+    pub told : TellsSessions notice sessions None
     pub first : sessions ≡ [] → StopsAt source_state sink_state (standard ∷ []) old new notice
     -- its disk never fails, and is never damaged
     pub disk : notice ≢ notices.Disk
@@ -180,7 +198,7 @@ module _ {D S K : Type 0} (moment : D → Moment) (source_state : S → SourceSt
     -- where the shelf tells that it opens both streams, and no count of theirs rose, the script was answered, but for memory
     pub complete : IsSome (old.scripts standard) → IsSome (old.replies standard)
         → HaveNoFaults source_state sink_state sessions → IsOfAnswers notice
-    pub one : sessions ≢ [] → (store : Standing D) × IsOneHistory plain moment source_state sink_state sessions notice history free store
+    pub one : sessions ≢ [] → (store : Standing D) × IsOneHistory plain moment source_state sink_state sessions None notice history free store
         × BeganEmpty moment store
 
 -- ---- `init`

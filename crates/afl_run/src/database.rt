@@ -3,6 +3,7 @@ ghost use Rattle.std.specs.Prelude.{◌≡◌, ◌≢◌, [], length, IsSome, If
 ghost use Rattle.afl_outside.specs.Disk.{DiskGoesOn};
 ghost use Rattle.page_chain.specs.Puts.{OnlySyncs};
 ghost use Rattle.run_opening.specs.Notice.{status_of};
+ghost use Rattle.afl_run.specs.Backups.{HasNoBackup};
 ghost use Rattle.afl_run.specs.Inner.Making.{Makes};
 ghost use Rattle.afl_run.specs.Run.{MakesDatabase};
 
@@ -17,6 +18,7 @@ pub(crate) fn run_init<F: Shelf>(alloc: Global, name: &str, shelf: F) -> Report<
     ensures status { result.status ≡ status_of result.notice }
     ensures sessions { result.sessions ≡ [] }
     ensures generated { result.generated ≡ None }
+    ensures no_backup { HasNoBackup result.backup result.restored result.checked }
     ensures history { result.history ≡ [] }
     ensures free_pages { result.free_pages ≡ 0 }
     ensures makes { MakesDatabase F.Device.moment (F.state shelf) (F.state result.shelf) result.notice name.now result.disk }
@@ -33,6 +35,7 @@ fn made<F: Shelf>(alloc: Global, disk: F::Device, shelf: F) -> Report<F>
     ensures status { result.status ≡ status_of result.notice }
     ensures sessions { result.sessions ≡ [] }
     ensures generated { result.generated ≡ None }
+    ensures no_backup { HasNoBackup result.backup result.restored result.checked }
     ensures history { result.history ≡ [] }
     ensures free_pages { result.free_pages ≡ 0 }
     ensures shelf { result.shelf ≡ shelf }

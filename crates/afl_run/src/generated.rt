@@ -7,11 +7,12 @@ ghost use Rattle.command_words.specs.Script.{script};
 ghost use Rattle.run_opening.specs.Notice.{status_of};
 ghost use Rattle.store_state.specs.Standings.{Standing};
 ghost use Rattle.afl_run.specs.Generate.{RunsGenerate, listed};
+ghost use Rattle.afl_run.specs.Backups.{HasNoBackup};
 ghost use Rattle.afl_run.specs.Inner.Making.{IsEmpty};
 ghost use Rattle.afl_run.specs.Inner.Over.{IsUnrun, RunsOver};
 ghost use Rattle.afl_run.specs.Run.{plain};
 
-use crate::over::run_over;
+use crate::over::run_alone;
 use crate::report::{Report, unrun};
 use crate::standard::{LIMITS, PLAIN, empty_database};
 use afl_lexer::Splitter;
@@ -61,6 +62,7 @@ pub(crate) fn run_generate<F: Shelf, R: Threads + Wait + Sync, G: Gate>(
     ensures status { result.status ≡ status_of result.notice }
     ensures sessions { result.sessions ≡ [] }
     ensures disk { result.disk ≡ None }
+    ensures no_backup { HasNoBackup result.backup result.restored result.checked }
     ensures runs { RunsGenerate sure_disk_moment sure_source_state F.K.state (F.state shelf) (F.state result.shelf) result.notice result.history
         result.generated result.free_pages (script number) }
 {
@@ -87,6 +89,7 @@ fn run_prepared<F: Shelf, R: Threads + Wait + Sync, G: Gate>(
     ensures status { result.status ≡ status_of result.notice }
     ensures sessions { result.sessions ≡ [] }
     ensures disk { result.disk ≡ None }
+    ensures no_backup { HasNoBackup result.backup result.restored result.checked }
     ensures runs { (text : List ℕ) → made.source ≡ unread text
         → RunsGenerate sure_disk_moment sure_source_state F.K.state (F.state shelf) (F.state result.shelf) result.notice result.history
         result.generated result.free_pages text }
@@ -116,7 +119,7 @@ fn run_on_sink<K: Sink + Send + Drop, R: Threads + Wait + Sync, G: Gate>(
     requires room { 1 ≤ vec_capacity made.room }
     ensures run { IsUnrun sure_disk_moment made.disk LIMITS result
         ⊎ ((end : Standing SureBytes) × RunsOver plain sure_disk_moment sure_source_state K.state made.disk LIMITS
-        (record { source = made.source; sink = sink; splitter = made.splitter } ∷ []) end result) }
+        (record { source = made.source; sink = sink; splitter = made.splitter } ∷ []) None end result None) }
     ensures few { length result.sessions ≤ 1 }
 {
     let Prepared {
@@ -130,7 +133,7 @@ fn run_on_sink<K: Sink + Send + Drop, R: Threads + Wait + Sync, G: Gate>(
         workers,
         style: PLAIN,
     };
-    run_over(rt, alloc, disk, LIMITS, options, streams, gate)
+    run_alone(rt, alloc, disk, LIMITS, options, streams, gate)
 }
 
 /// The streams of the session, in the room that is there for them.
@@ -166,6 +169,7 @@ fn report_of<F: Shelf>(
     ensures generated { run.sessions ≡ listed result.generated }
     ensures free_pages { result.free_pages ≡ run.free_pages }
     ensures disk { result.disk ≡ None }
+    ensures no_backup { HasNoBackup result.backup result.restored result.checked }
     ensures shelf { result.shelf ≡ shelf }
 {
     let StoreRun {
@@ -183,7 +187,10 @@ fn report_of<F: Shelf>(
         notice,
         history,
         sessions: List::new(alloc),
+        backup: None,
         generated,
+        restored: None,
+        checked: None,
         free_pages,
         disk: None,
         shelf,

@@ -3,11 +3,12 @@ ghost use Rattle.std.specs.Prelude.{◌≡◌, ◌∷◌, [], IfOk, None};
 ghost use Rattle.run_opening.specs.Notice.{status_of};
 ghost use Rattle.afl_outside.specs.Inner.Records.{sure_disk_moment};
 ghost use Rattle.run_opening.specs.Names.{standard};
+ghost use Rattle.afl_run.specs.Backups.{HasNoBackup};
 ghost use Rattle.afl_run.specs.Inner.Making.{IsEmpty};
 ghost use Rattle.afl_run.specs.Run.{RunsTry};
 
 use crate::database::make;
-use crate::over::run_over;
+use crate::over::run_alone;
 use crate::report::{Report, unrun};
 use afl_outside::{Gate, Shelf, SureDisk};
 use cell_values::{Bytes, Memory};
@@ -24,7 +25,7 @@ pub(crate) const PLAIN: Style = Style {
     trace: false,
 };
 
-const OPTIONS: Options = Options {
+pub(crate) const OPTIONS: Options = Options {
     workers: 4,
     style: PLAIN,
 };
@@ -35,7 +36,7 @@ pub(crate) const LIMITS: Limits = Limits {
 };
 
 /// The name of the standard streams.
-fn standard_name(alloc: Global) -> Result<Arg, Memory>
+pub(crate) fn standard_name(alloc: Global) -> Result<Arg, Memory>
     ensures { IfOk result (λ name. name ≡ standard) }
 {
     Ok(Arg::new(String::from_str(alloc, "-")?))
@@ -62,6 +63,7 @@ pub(crate) fn run_try<F: Shelf, R: Threads + Wait + Sync, G: Gate>(
     ensures status { result.status ≡ status_of result.notice }
     ensures generated { result.generated ≡ None }
     ensures disk { result.disk ≡ None }
+    ensures no_backup { HasNoBackup result.backup result.restored result.checked }
     ensures runs { RunsTry sure_disk_moment F.S.state F.K.state (F.state shelf) (F.state result.shelf) result.notice result.history result.sessions
         result.free_pages }
 {
@@ -88,13 +90,14 @@ fn run_standard<F: Shelf, R: Threads + Wait + Sync, G: Gate>(
     ensures status { result.status ≡ status_of result.notice }
     ensures generated { result.generated ≡ None }
     ensures disk { result.disk ≡ None }
+    ensures no_backup { HasNoBackup result.backup result.restored result.checked }
     ensures runs { RunsTry sure_disk_moment F.S.state F.K.state (F.state shelf) (F.state result.shelf) result.notice result.history result.sessions
         result.free_pages }
 {
     let mut shelf = shelf;
     match open_streams(alloc, names, &mut shelf) {
         Ok(streams) => {
-            let run = run_over(rt, alloc, disk, LIMITS, OPTIONS, streams, gate);
+            let run = run_alone(rt, alloc, disk, LIMITS, OPTIONS, streams, gate);
             report_of(run, shelf)
         }
         Err(notice) => unrun(alloc, notice, None, shelf),
@@ -109,6 +112,7 @@ fn report_of<F: Shelf>(run: StoreRun<SureDisk, F::S, F::K>, shelf: F) -> Report<
     ensures free_pages { result.free_pages ≡ run.free_pages }
     ensures generated { result.generated ≡ None }
     ensures disk { result.disk ≡ None }
+    ensures no_backup { HasNoBackup result.backup result.restored result.checked }
     ensures shelf { result.shelf ≡ shelf }
 {
     let StoreRun {
@@ -124,7 +128,10 @@ fn report_of<F: Shelf>(run: StoreRun<SureDisk, F::S, F::K>, shelf: F) -> Report<
         notice,
         history,
         sessions,
+        backup: None,
         generated: None,
+        restored: None,
+        checked: None,
         free_pages,
         disk: None,
         shelf,

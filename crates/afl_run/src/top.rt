@@ -1,19 +1,27 @@
 //! The top call.
-ghost use Rattle.std.specs.Prelude.{◌≡◌, ◌<◌, ◌↔◌, ℕ, [], ◌∷◌, Some, codes, drop, length, slice_get};
+ghost use Rattle.std.specs.Prelude.{◌≡◌, ◌<◌, ◌↔◌, ℕ, [], ◌∷◌, Option, None, Some, IfSome, codes, drop, length, slice_get};
 ghost use Rattle.command_words.specs.Faults.{IsFault};
-ghost use Rattle.command_words.specs.Forms.{IsGenerate, IsInit, IsRun};
+ghost use Rattle.command_words.specs.Forms.{backup_names, IsCheck, IsDump, IsGenerate, IsInit, IsRestore, IsRun};
+ghost use Rattle.command_words.specs.Laws.{IsNamedAt};
+ghost use Rattle.afl_run.specs.Backups.{HasNoBackup};
+ghost use Rattle.afl_run.specs.Checks.{Checks};
+ghost use Rattle.afl_run.specs.Restores.{Restores};
+ghost use Rattle.afl_run.specs.Forms.{IsOfNoBackup};
 ghost use Rattle.command_words.specs.declared.words.forms.Printing.{Printing};
 ghost use Rattle.run_opening.specs.Notice.{status_of};
 ghost use Rattle.afl_outside.specs.InMemory.{sure_source_state};
 ghost use Rattle.afl_outside.specs.Inner.Records.{sure_disk_moment};
 ghost use Rattle.command_words.specs.Script.{script};
 ghost use Rattle.afl_run.specs.Generate.{RunsGenerate};
-ghost use Rattle.afl_run.specs.Run.{MakesDatabase, RunsScripts, RunsTry};
+ghost use Rattle.afl_run.specs.Run.{plain, MakesDatabase, RunsScripts, RunsTry};
 
 use crate::database::run_init;
 use crate::generated::run_generate;
 use crate::report::{Report, unrun};
-use crate::scripts::run_scripts;
+use crate::checking::run_check;
+use crate::restoring::run_restore;
+use crate::scripts::{Names, Settings, run_scripts};
+use crate::dumping::run_dump;
 use crate::standard::run_try;
 use afl_outside::{Gate, Shelf};
 use command_words::{Arg, Form, Printing, form_of};
@@ -41,10 +49,19 @@ pub fn run<F: Shelf, R: Threads + Wait + Sync, G: Gate>(
     ensures nothing { (word : ℕ) → result.notice ≡ Notice.Usage word
         → (result.sessions ≡ []) × (result.history ≡ []) × (result.free_pages ≡ 0) × (result.disk ≡ None) }
 
-    ensures runs { (workers pages history : ℕ) (printing : Printing) (first : ℕ) (run : IsRun words.now workers pages history printing first)
+    ensures runs { (workers pages history : ℕ) (printing : Printing) (dump : Option ℕ) (first : ℕ)
+        (run : IsRun words.now workers pages history printing dump first)
         → RunsScripts (record { csv = printing.csv; trace = printing.trace }) F.Device.moment F.S.state F.K.state
-        (F.state shelf) (F.state result.shelf) result.notice result.history result.sessions
-        result.free_pages run.device run.scripts pages history result.disk }
+        (F.state shelf) (F.state result.shelf) result.notice result.history result.sessions result.backup
+        result.free_pages run.device run.scripts (backup_names run.settings) pages history result.disk }
+    ensures dumps { (pages history : ℕ) (dump : IsDump words.now pages history)
+        → RunsScripts plain F.Device.moment F.S.state F.K.state
+        (F.state shelf) (F.state result.shelf) result.notice result.history result.sessions result.backup
+        result.free_pages dump.has.device [] (codes "-" ∷ []) pages history result.disk }
+    ensures restores { (pages : ℕ) (restore : IsRestore words.now pages)
+        → Restores F.Device.moment F.S.state (F.state shelf) (F.state result.shelf) result.notice restore.has.device pages result.disk result.restored }
+    ensures checks { (check : IsCheck words.now)
+        → Checks F.Device.moment F.K.state (F.state shelf) (F.state result.shelf) result.notice check.device result.disk result.checked }
     ensures tries { words.now ≡ codes "try" ∷ []
         → RunsTry sure_disk_moment F.S.state F.K.state (F.state shelf) (F.state result.shelf) result.notice result.history result.sessions result.free_pages }
     ensures generates { (number workers : ℕ) → IsGenerate words.now number workers
@@ -57,6 +74,8 @@ pub fn run<F: Shelf, R: Threads + Wait + Sync, G: Gate>(
     ensures no_session { (init : IsInit words.now) → (result.sessions ≡ []) × (result.history ≡ []) × (result.free_pages ≡ 0) }
     ensures no_device { words.now ≡ codes "try" ∷ [] → result.disk ≡ None }
     ensures alone { (number workers : ℕ) → IsGenerate words.now number workers → (result.sessions ≡ []) × (result.disk ≡ None) }
+    // A backup is made by `run` with `--dump` and by `dump` alone, restored by `restore`, and checked by `check`.
+    ensures no_backup { IsOfNoBackup words.now → HasNoBackup result.backup result.restored result.checked }
     ensures not_generated { ((number workers : ℕ) → IsGenerate words.now number workers → ⊥) → result.generated ≡ None }
 {
     match form_of(words) {
@@ -72,6 +91,7 @@ pub fn run<F: Shelf, R: Threads + Wait + Sync, G: Gate>(
                 pages,
                 history,
                 printing,
+                dump,
                 scripts,
             },
         ) => {
@@ -80,8 +100,31 @@ pub fn run<F: Shelf, R: Threads + Wait + Sync, G: Gate>(
             let style = Style { csv, trace };
             let options = Options { workers, style };
             let target = word_at(words, device);
-            let listed = words_from(words, scripts);
-            run_scripts(rt, alloc, target, listed, limits, options, shelf, gate)
+            let names = Names {
+                scripts: words_from(words, scripts),
+                backups: word_if(words, dump),
+            };
+            let settings = Settings { limits, options };
+            run_scripts(rt, alloc, target, names, settings, shelf, gate)
+        }
+        Ok(
+            Form::Dump {
+                device,
+                pages,
+                history,
+            },
+        ) => {
+            let target = word_at(words, device);
+            let limits = Limits { pages, history };
+            run_dump(rt, alloc, target, limits, shelf, gate)
+        }
+        Ok(Form::Restore { device, pages }) => {
+            let name = word_at(words, device);
+            run_restore(alloc, name.as_str(), pages, shelf)
+        }
+        Ok(Form::Check { device }) => {
+            let name = word_at(words, device);
+            run_check(alloc, name.as_str(), shelf)
         }
         Ok(Form::Generate { number, workers }) => {
             run_generate(rt, alloc, number, workers, shelf, gate)
@@ -102,4 +145,15 @@ fn words_from(words: &[Arg], place: usize) -> &[Arg]
     ensures { result.now ≡ drop place words.now }
 {
     &words[place..]
+}
+
+/// The word of this place alone, or none.
+fn word_if(words: &[Arg], place: Option<usize>) -> &[Arg]
+    requires { IfSome place (λ at. at < length words.now) }
+    ensures { IsNamedAt words.now place result.now }
+{
+    match place {
+        Some(place) => &words[place..place + 1],
+        None => &words[..0],
+    }
 }

@@ -6,7 +6,7 @@ mod reports;
 mod stores;
 
 pub use array_store::Store;
-pub use opening::{open_device, open_reply, open_streams};
+pub use opening::{open_device, open_reply, open_script, open_streams};
 pub use reports::{
     BackupEnd, BackupReport, Mark, Notice, SessionEnd, SessionReport, Streams, notice_after,
     notice_line, status,

@@ -10,3 +10,4 @@ mod scripts;
 pub use device::open_device;
 pub use opening::open_streams;
 pub use replies::open_reply;
+pub use scripts::open_script;

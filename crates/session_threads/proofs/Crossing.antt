@@ -29,12 +29,19 @@ use Rattle.run_opening.specs.contracts.reports.reports.Mark as mark
 use Rattle.run_opening.specs.contracts.reports.reports.SessionReport as report
 use Rattle.run_opening.specs.contracts.reports.reports.Streams as streams
 use Rattle.session_answers.specs.contracts.turns.settings.Options as options
+use Rattle.run_opening.specs.contracts.reports.reports.BackupReport as backup_report
+use Rattle.session_threads.specs.contracts.backup.BackupDesk as backup_desk
 use Rattle.session_threads.specs.contracts.desk.Desk as desk
 
 -- what a closure captures may cross where each captured part may
 pub three_send : (name : Sym) (A B C : RattleType) → IsSend A → IsSend B → IsSend C → IsSend (row (type_at name (A ∷ B ∷ C ∷ [])))
 three_send name A B C a b c =
     let T : Declared = type_at name (A ∷ B ∷ C ∷ []) in recorded_send _ T.D T.to T.to_one (struct_send (shape T) (a, (b, (c, tt))))
+
+pub five_send : (name : Sym) (A B C D E : RattleType) → IsSend A → IsSend B → IsSend C → IsSend D → IsSend E →
+    IsSend (row (type_at name (A ∷ B ∷ C ∷ D ∷ E ∷ [])))
+five_send name A B C D E a b c d e =
+    let T : Declared = type_at name (A ∷ B ∷ C ∷ D ∷ E ∷ []) in recorded_send _ T.D T.to T.to_one (struct_send (shape T) (a, (b, (c, (d, (e, tt))))))
 
 pub five_sync : (name : Sym) (A B C D E : RattleType) → IsSync A → IsSync B → IsSync C → IsSync D → IsSync E →
     IsSync (row (type_at name (A ∷ B ∷ C ∷ D ∷ E ∷ [])))
@@ -103,3 +110,17 @@ part_send A B C a b c = search (sendable, crosses) depth 40
 module _ (D S K : RattleType) (g : Ghosts D.Denot) (d : IsSend D) (s : IsSend S) (k : IsSend K) where
   pub desk_send : IsSend (desk.the_row (seat.the_row D g) (streams.the_row S K) (report.the_row S K))
   desk_send = part_send _ _ _ (seat_send D g d) (streams_send S K s k) (report_send S K s k)
+
+-- whatever its seat and its item are
+backup_part_send : (A B : RattleType) → IsSend A → IsSend B → IsSend (backup_desk.the_row A B)
+backup_part_send A B a b = search (sendable, crosses) depth 40
+
+backup_report_send : (K : RattleType) → IsSend K → IsSend (backup_report.the_row K)
+backup_report_send K k = search (sendable, crosses) depth 40
+
+module _ (D K : RattleType) (g : Ghosts D.Denot) (d : IsSend D) (k : IsSend K) where
+  pub backup_desk_send : IsSend (backup_desk.the_row (seat.the_row D g) K)
+  backup_desk_send = backup_part_send _ _ (seat_send D g d) k
+
+  pub made_send : IsSend (backup_desk.the_row (seat.the_row D g) (backup_report.the_row K))
+  made_send = backup_part_send _ _ (seat_send D g d) (backup_report_send K k)

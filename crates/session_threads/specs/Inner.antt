@@ -1,3 +1,4 @@
+pub mod Backups
 pub mod Desks
 pub mod Each
 pub mod Rooms

@@ -91,7 +91,7 @@ fn work_each<
     thread::for_each_mut(rt, desks, usize::MAX, &each);
 }
 
-/// All sessions work, each on a thread of its own. Then the bell is closed.
+/// All sessions work, each on a thread of its own.
 pub(crate) fn work_all<
     D: Disk + Send + Drop,
     S: Source + Send + Drop,
@@ -110,6 +110,5 @@ pub(crate) fn work_all<
     ensures { AllWorked options.now.style D.moment S.state K.state shared.now desks.items result.items }
 {
     work_each(rt, alloc, shared, options, gate, desks.as_mut_slice());
-    shared.close_bell(rt);
     desks
 }

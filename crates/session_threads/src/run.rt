@@ -1,21 +1,25 @@
-//! All sessions, from their streams to their reports.
-ghost use Rattle.std.specs.Prelude.{◌≡◌, ◌≤◌, ◌+◌, [], length, slice_get, vec_capacity, IfErr, IfOk, All, List, Some};
+//! All sessions and a backup, from their streams to their reports.
+ghost use Rattle.std.specs.Prelude.{◌≡◌, ◌≤◌, ◌+◌, ℕ, [], drop, length, slice_get, vec_capacity, IfErr, IfOk, All, List, Option, Some};
 ghost use Rattle.afl_lexer.specs.Inner.Standing.{StandsAfter};
 ghost use Rattle.store_state.specs.At.{standing};
 ghost use Rattle.store_state.specs.Events.{events};
 ghost use Rattle.snapshot_manager.specs.Starts.{start_of};
 ghost use Rattle.snapshot_manager.specs.Seats.{seats_in_all, start, AreNewSeats};
 ghost use Rattle.afl_session.specs.Style.{Style};
-ghost use Rattle.session_threads.specs.Sessions.{AreOfSessions, AreSessionsOf};
+ghost use Rattle.session_threads.specs.Sessions.{seats_for, AreOfSessions, AreSessionsOf, HasBackup};
+ghost use Rattle.session_threads.specs.Inner.Backups.{IsMade, IsSeatedAt};
 ghost use Rattle.session_threads.specs.Inner.Desks.{AreDone, AreEmptied, AreSeated, HasEnded, IsReaper};
 ghost use Rattle.session_threads.specs.Inner.Rooms.{HasRoom};
 ghost use Rattle.run_opening.specs.declared.reports.reports.Streams.{Streams};
 
-use crate::desk::{Desk, SessionDesk};
+use crate::backup::{BackupDesk, taken_back};
+use crate::desk::Desk;
 use crate::reaper::work_beside;
 use crate::room::{Room, opened};
+use crate::tasks::{RunTasks, Tasks};
 use afl_outside::{Disk, Gate, Sink, Source};
 use afl_session::{Options, SessionReport};
+use backup_stream::BackupReport;
 use cell_values::{List, Memory};
 use run_opening::Streams;
 use snapshot_manager::{Seat, Shared, Store};
@@ -23,8 +27,14 @@ use std::alloc::Global;
 use std::sync::Wait;
 use std::thread::Threads;
 
-/// Answers a script for each of these streams over a store in which nothing was done yet, each session on a thread of its own, and
-/// reaps beside them. Without memory nothing is done, and all comes back.
+/// The streams of the scripts, and the sink of the backup.
+struct Inputs<S, K> {
+    streams: List<Streams<S, K>>,
+    backup: Option<K>,
+}
+
+/// Answers a script for each of these streams over a store in which nothing was done yet, each session on a thread of its own, makes
+/// a backup where there is a sink for one, and reaps beside them. Without memory nothing is done, and all comes back.
 pub fn run_sessions<
     D: Disk + Send + Drop,
     S: Source + Send + Drop,
@@ -36,10 +46,14 @@ pub fn run_sessions<
     alloc: Global,
     store: Store<D>,
     streams: List<Streams<S, K>>,
+    backup: Option<K>,
     options: &Options,
     gate: &G,
-) -> Result<(Store<D>, List<SessionReport<S, K>>), (Memory, Store<D>, List<Streams<S, K>>)>
-    requires count { (1 ≤ length streams) × (length streams ≤ 16) }
+) -> Result<
+    (Store<D>, List<SessionReport<S, K>>, Option<BackupReport<K>>),
+    (Memory, Store<D>, List<Streams<S, K>>, Option<K>),
+>
+    requires count { (1 ≤ length streams + seats_for backup) × (length streams + seats_for backup ≤ 16) }
     requires entries { store.ledger.entries ≡ [] }
     requires notes { store.ledger.notes ≡ [] }
     requires begun { All (λ own. StandsAfter [] own.splitter) streams }
@@ -48,14 +62,28 @@ pub fn run_sessions<
     ensures reports { IfOk result (λ run. length run.1 ≡ length streams) }
     ensures each { IfOk result (λ run. AreSessionsOf options.now.style D.moment S.state K.state (start_of (standing D.moment store)) streams run.1
         (events (standing D.moment run.0))) }
-    ensures others { IfOk result (λ run. AreOfSessions (length streams) (events (standing D.moment run.0))) }
-    ensures err { IfErr result (λ failed. (failed.1 ≡ store) × (failed.2 ≡ streams)) }
+    ensures backup { IfOk result (λ run. HasBackup D.moment K.state (start_of (standing D.moment store)) (length streams) backup run.2
+        (events (standing D.moment run.0))) }
+    ensures others { IfOk result (λ run. AreOfSessions (length streams + seats_for backup) (events (standing D.moment run.0))) }
+    ensures err { IfErr result (λ failed. (failed.1 ≡ store) × (failed.2 ≡ streams) × (failed.3 ≡ backup)) }
 {
-    match opened(alloc, store, streams.len()) {
-        Ok((shared, seats, room)) => Ok(run_shared(
-            rt, alloc, shared, seats, streams, options, gate, room,
-        )),
-        Err((want, store)) => Err((want, store, streams)),
+    let sessions = streams.len() + seats_for(&backup);
+    match opened(alloc, store, sessions) {
+        Ok((shared, seats, room)) => {
+            let inputs = Inputs { streams, backup };
+            Ok(run_shared(rt, alloc, shared, seats, inputs, options, gate, room))
+        }
+        Err((want, store)) => Err((want, store, streams, backup)),
+    }
+}
+
+// How many seats a backup takes.
+fn seats_for<K>(backup: &Option<K>) -> usize
+    ensures { result ≡ seats_for backup.now }
+{
+    match backup {
+        Some(_) => 1,
+        None => 0,
     }
 }
 
@@ -71,42 +99,46 @@ fn run_shared<
     alloc: Global,
     shared: Shared<D>,
     seats: List<Seat<D>>,
-    streams: List<Streams<S, K>>,
+    inputs: Inputs<S, K>,
     options: &Options,
     gate: &G,
     room: Room<Seat<D>, Streams<S, K>, SessionReport<S, K>>,
-) -> (Store<D>, List<SessionReport<S, K>>)
+) -> (Store<D>, List<SessionReport<S, K>>, Option<BackupReport<K>>)
     requires seats { AreNewSeats shared seats }
-    requires count { (length seats ≡ length streams + 1) × (seats_in_all shared ≡ length streams + 1) }
-    requires begun { All (λ own. StandsAfter [] own.splitter) streams }
+    requires count { (length seats ≡ length inputs.streams + seats_for inputs.backup + 1) × (seats_in_all shared ≡ length seats) }
+    requires begun { All (λ own. StandsAfter [] own.splitter) inputs.streams }
     requires workers { (1 ≤ options.now.workers) × (options.now.workers ≤ 64) }
-    requires room { HasRoom (length streams) room }
+    requires room { HasRoom (length inputs.streams + seats_for inputs.backup) room }
     ensures start { start_of (standing D.moment result.0) ≡ start D.moment shared }
-    ensures reports { length result.1 ≡ length streams }
-    ensures each { AreSessionsOf options.now.style D.moment S.state K.state (start D.moment shared) streams result.1 (events (standing D.moment result.0)) }
-    ensures others { AreOfSessions (length streams) (events (standing D.moment result.0)) }
+    ensures reports { length result.1 ≡ length inputs.streams }
+    ensures each { AreSessionsOf options.now.style D.moment S.state K.state (start D.moment shared) inputs.streams result.1 (events (standing D.moment result.0)) }
+    ensures backup { HasBackup D.moment K.state (start D.moment shared) (length inputs.streams) inputs.backup result.2 (events (standing D.moment result.0)) }
+    ensures others { AreOfSessions (length inputs.streams + seats_for inputs.backup) (events (standing D.moment result.0)) }
 {
+    let Inputs { streams, backup } = inputs;
     let Room {
         desks,
         seats: room,
         reports,
     } = room;
-    let (desks, own) = seated(seats, streams, desks);
-    let (desks, own) = work_beside(rt, alloc, &shared, options, gate, desks, own);
-    gathered(shared, own, desks, room, reports)
+    let (desks, left) = seated(seats, streams, desks);
+    let (backup, own) = last_seated(left, backup);
+    let tasks = Tasks { desks, backup };
+    let (tasks, own) = work_beside(rt, alloc, &shared, options, gate, tasks, own);
+    gathered(shared, own, tasks, room, reports)
 }
 
-// A desk for each session, with the seat of its number and the streams of its place. The last seat is left over.
+// A desk for each session, with the seat of its number and the streams of its place. The seats behind them are left over.
 fn seated<P: Drop, W: Drop, M: Drop>(
     mut seats: List<P>,
     mut streams: List<W>,
     mut room: Vec<Desk<P, W, M>>,
-) -> (Vec<Desk<P, W, M>>, P)
-    requires count { length seats ≡ length streams + 1 }
+) -> (Vec<Desk<P, W, M>>, List<P>)
+    requires count { length streams ≤ length seats }
     requires room { (room.items ≡ []) × (length streams ≤ vec_capacity room) }
     ensures count { length result.0.items ≡ length streams }
     ensures desks { AreSeated seats streams result.0.items }
-    ensures own { slice_get seats (length streams) ≡ Some result.1 }
+    ensures left { result.1 ≡ drop (length streams) seats }
 {
     let count = streams.len();
     for _ in 0..count {
@@ -117,33 +149,63 @@ fn seated<P: Drop, W: Drop, M: Drop>(
             streams: first,
         });
     }
-    let own = seats.remove(0);
-    (room, own)
+    (room, seats)
+}
+
+// The seats behind those of the sessions: first the backup's, where there is one, and then the reaper's.
+fn last_seated<P: Drop, K: Drop>(
+    mut seats: List<P>,
+    backup: Option<K>,
+) -> (Option<BackupDesk<P, K>>, P)
+    requires { length seats ≡ seats_for backup + 1 }
+    ensures backup { (all : List P) (n : ℕ) → seats ≡ drop n all → IsSeatedAt (slice_get all n) backup result.0 }
+    ensures own { (all : List P) (n : ℕ) → seats ≡ drop n all → slice_get all (n + seats_for backup) ≡ Some result.1 }
+{
+    match backup {
+        Some(sink) => {
+            let next = seats.remove(0);
+            let own = seats.remove(0);
+            let desk = BackupDesk {
+                seat: next,
+                item: sink,
+            };
+            (Some(desk), own)
+        }
+        None => {
+            let own = seats.remove(0);
+            (None, own)
+        }
+    }
 }
 
 // Takes the store back from the seats, of which the reaper's is the last, once all sessions have ended. It takes no memory.
 fn gathered<D: Disk + Drop, S: Source + Drop, K: Sink + Drop>(
     shared: Shared<D>,
     own: Seat<D>,
-    desks: Vec<SessionDesk<D, S, K>>,
+    tasks: RunTasks<D, S, K, BackupReport<K>>,
     seats: Vec<Seat<D>>,
     reports: Vec<SessionReport<S, K>>,
-) -> (Store<D>, List<SessionReport<S, K>>)
-    requires count { seats_in_all shared ≡ length desks.items + 1 }
-    requires own { IsReaper shared (length desks.items) own }
-    requires desks { (style : Style) × (streams : List (Streams S K)) × AreDone style D.moment S.state K.state shared streams desks.items }
-    requires seats { (seats.items ≡ []) × (length desks.items + 1 ≤ vec_capacity seats) }
-    requires reports { (reports.items ≡ []) × (length desks.items ≤ vec_capacity reports) }
+) -> (Store<D>, List<SessionReport<S, K>>, Option<BackupReport<K>>)
+    requires count { seats_in_all shared ≡ length tasks.desks.items + seats_for tasks.backup + 1 }
+    requires own { IsReaper shared (length tasks.desks.items + seats_for tasks.backup) own }
+    requires desks { (style : Style) × (streams : List (Streams S K)) × AreDone style D.moment S.state K.state shared streams tasks.desks.items }
+    requires backup { (sink : Option K) × IsMade D.moment K.state shared (length tasks.desks.items) sink tasks.backup }
+    requires seats { (seats.items ≡ []) × (length tasks.desks.items + seats_for tasks.backup + 1 ≤ vec_capacity seats) }
+    requires reports { (reports.items ≡ []) × (length tasks.desks.items ≤ vec_capacity reports) }
     ensures start { start_of (standing D.moment result.0) ≡ start D.moment shared }
-    ensures count { length result.1 ≡ length desks.items }
-    ensures each { (style : Style) (streams : List (Streams S K)) → length streams ≡ length desks.items
-        → AreDone style D.moment S.state K.state shared streams desks.items
+    ensures count { length result.1 ≡ length tasks.desks.items }
+    ensures each { (style : Style) (streams : List (Streams S K)) → length streams ≡ length tasks.desks.items
+        → AreDone style D.moment S.state K.state shared streams tasks.desks.items
         → AreSessionsOf style D.moment S.state K.state (start D.moment shared) streams result.1 (events (standing D.moment result.0)) }
-    ensures others { AreOfSessions (length desks.items) (events (standing D.moment result.0)) }
+    ensures backup { (sink : Option K) → IsMade D.moment K.state shared (length tasks.desks.items) sink tasks.backup
+        → HasBackup D.moment K.state (start D.moment shared) (length tasks.desks.items) sink result.2 (events (standing D.moment result.0)) }
+    ensures others { AreOfSessions (length tasks.desks.items + seats_for tasks.backup) (events (standing D.moment result.0)) }
 {
-    let (mut seats, reports) = emptied(desks, seats, reports);
+    let Tasks { desks, backup } = tasks;
+    let (seats, reports) = emptied(desks, seats, reports);
+    let (mut seats, report) = taken_back(backup, seats);
     seats.push_reserved(own);
-    (shared.finish(List::from_vec(seats)), reports)
+    (shared.finish(List::from_vec(seats)), reports, report)
 }
 
 // The seats and the reports of sessions that have ended, in order.
@@ -153,9 +215,9 @@ fn emptied<P: Drop, W: Drop, M: Drop>(
     mut reports: Vec<M>,
 ) -> (Vec<P>, List<M>)
     requires ended { All (λ desk. HasEnded desk) desks.items }
-    requires seats { (seats.items ≡ []) × (length desks.items + 1 ≤ vec_capacity seats) }
+    requires seats { (seats.items ≡ []) × (length desks.items ≤ vec_capacity seats) }
     requires reports { (reports.items ≡ []) × (length desks.items ≤ vec_capacity reports) }
-    ensures seats { (length result.0.items ≡ length desks.items) × (length desks.items + 1 ≤ vec_capacity result.0) }
+    ensures seats { (length result.0.items ≡ length desks.items) × (vec_capacity result.0 ≡ vec_capacity seats) }
     ensures reports { length result.1 ≡ length desks.items }
     ensures emptied { AreEmptied desks.items result.0.items result.1 }
 {

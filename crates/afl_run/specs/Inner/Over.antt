@@ -1,5 +1,5 @@
 -- What came of sessions over a disk.
-use Rattle.std.specs.Prelude.{◌≡◌, ◌⊎◌, ℕ, List, [], length}
+use Rattle.std.specs.Prelude.{◌≡◌, ◌⊎◌, ℕ, ◌+◌, ◌≤◌, List, [], length, Option}
 use Rattle.afl_outside.specs.Counts.{Rose}
 use Rattle.afl_outside.specs.Disk.{Moment}
 use Rattle.afl_outside.specs.Source.{SourceState}
@@ -15,12 +15,18 @@ use Rattle.run_opening.specs.Outcomes.{notice_of}
 use Rattle.run_opening.specs.declared.reports.notices.Notice.TheVariants.{Damaged, Disk, Memory}
 use Rattle.run_opening.specs.declared.reports.reports.Streams.{Streams}
 use Rattle.turn_lock.specs.Owners.{AreOwnedBelow}
-use Rattle.session_threads.specs.Sessions.{AreSessionsOf}
+use Rattle.session_threads.specs.Sessions.{seats_for, AreSessionsOf, HasBackup}
+use Rattle.run_opening.specs.declared.reports.reports.BackupReport.{BackupReport}
+use Rattle.afl_run.specs.Backups.{ended}
 use Rattle.session_threads.specs.Style.{Style}
 use Rattle.store_ledger.specs.Ledger.{unused_pages}
 use Rattle.store_opening.specs.declared.opening.opening.Limits.{Limits}
 use Rattle.store_state.specs.Events.{events, owner_of}
 use Rattle.store_state.specs.Standings.{BeganAs, Standing}
+
+-- so many sessions can share a store
+abbrev pub HasSessions : ℕ → Type 0
+HasSessions count = (1 ≤ count) × (count ≤ 16)
 
 module _ {D S K : Type 0} where
   -- no session ran, since memory was short
@@ -50,17 +56,21 @@ module _ {D S K : Type 0} where
     pub syncs : OnlySyncs (moment disk) (moment run.disk)
 
 module _ {D S K : Type 0} (style : Style) (moment : D → Moment) (source_state : S → SourceState) (sink_state : K → SinkState) where
-  -- SESSIONS RAN over a store that began so, which was this at its end: each served its streams, over the one history that the store has at its end
-  pub record RunsTo (start : Start D) (streams : List (Streams S K)) (end : Standing D) (run : StoreRun D S K) : Type 0 where
+  -- SESSIONS RAN over a store that began so, which was this at its end: each served its streams, and a backup was made where there is a sink for it,
+  -- over the one history that the store has at its end
+  pub record RunsTo (start : Start D) (streams : List (Streams S K)) (sink : Option K) (end : Standing D) (run : StoreRun D S K)
+      (backup : Option (BackupReport K)) : Type 0 where
     pub began : start_of end ≡ start
     pub ends : EndsWith moment end run
     pub count : length run.sessions ≡ length streams
     pub each : AreSessionsOf style moment source_state sink_state start streams run.sessions (events end)
-    pub others : AreOwnedBelow owner_of (length streams) (events end)
-    pub told : (run.notice ≡ Memory) ⊎ (run.notice ≡ notice_of run.sessions)
+    pub dumped : HasBackup moment sink_state start (length streams) sink backup (events end)
+    pub others : AreOwnedBelow owner_of (length streams + seats_for sink) (events end)
+    pub told : (run.notice ≡ Memory) ⊎ (run.notice ≡ notice_of run.sessions (ended backup))
     pub disk : run.notice ≡ Disk → Rose (moment end.opened.disk).state.faults (moment end.disk).state.faults
     pub damaged : (page : ℕ) → run.notice ≡ Damaged page → (db : Database) → BeganAs (moment end.opened.disk).state db → ⊥
 
-  pub record RunsOver (disk : D) (limits : Limits) (streams : List (Streams S K)) (end : Standing D) (run : StoreRun D S K) : Type 0 where
+  pub record RunsOver (disk : D) (limits : Limits) (streams : List (Streams S K)) (sink : Option K) (end : Standing D) (run : StoreRun D S K)
+      (backup : Option (BackupReport K)) : Type 0 where
     pub opened : BeganOver moment disk limits (start_of end)
-    pub runs : RunsTo (start_of end) streams end run
+    pub runs : RunsTo (start_of end) streams sink end run backup

@@ -13,7 +13,7 @@ use afl_outside::{Failed, Shelf};
 use command_words::Arg;
 
 /// The script of this name, which is this session's, or what is told where it isn't opened.
-fn open_script<F: Shelf>(shelf: &mut F, session: u32, name: &str) -> Result<F::S, Notice>
+pub fn open_script<F: Shelf>(shelf: &mut F, session: u32, name: &str) -> Result<F::S, Notice>
     ensures new { IfOk result (λ source. IsNewSource name.now (F.S.state source)) }
     ensures content { IfOk result (λ source. IfSome ((F.state shelf.old).scripts name.now) (λ bytes. (F.S.state source).first ≡ Some bytes)) }
     ensures cause { IfErr result (λ notice. FailsFor session ((F.state shelf.old).scripts name.now) notice (F.state shelf.old) (F.state shelf.new)) }

@@ -1,4 +1,4 @@
-use Rattle.std.proofs.Common.{inl, sym, subst}
+use Rattle.std.proofs.Common.{inl, refl, sym, subst}
 use Rattle.afl_outside.specs.Disk.{DiskGoesOn}
 use Rattle.store_state.specs.At.{standing}
 use Rattle.run_opening.specs.declared.stores.closing.StoreRun.{StoreRun}
@@ -13,8 +13,8 @@ returns-in-Ok g c =
     let store = standing moment c.in-Ok.store in
     let e = c.in-Ok.ensures in
     record {
-      same = disk_goes_on c.args.options.style moment source sink c.args.disk c.args.limits c.args.streams store c.run_store.result e.began e.reads.same c.run_store.ensures;
-      run = over c.args.options.style moment source sink c.args.disk c.args.limits c.args.streams store c.run_store.result e.began e.new.entries e.reads c.run_store.ensures;
+      same = disk_goes_on c.args.options.style moment source sink c.args.disk c.args.limits c.args.inputs.streams c.args.inputs.backup store c.run_store.result.0 c.run_store.result.1 e.began e.reads.same c.run_store.ensures;
+      run = over c.args.options.style moment source sink c.args.disk c.args.limits c.args.inputs.streams c.args.inputs.backup store c.run_store.result.0 c.run_store.result.1 e.began e.new.entries e.reads c.run_store.ensures;
     }
 
 pub returns-in-Err : goal.returns-in-Err
@@ -23,5 +23,5 @@ returns-in-Err g c =
     let e = c.in-Err.ensures in
     record {
       same = subst (λ (r : StoreRun g.row.D.Denot g.row.S.Denot g.row.K.Denot). DiskGoesOn (moment c.args.disk).state (moment r.disk).state) (sym c.unrun.ensures) e.reads.same;
-      run = inl (unopened_as c.args.options.style moment g.S.Source.state g.K.Sink.state c.args.disk c.in-Err.disk c.args.limits c.in-Err.notice c.unrun.result c.unrun.ensures e.cause e.reads);
+      run = inl (unopened_as c.args.options.style moment g.S.Source.state g.K.Sink.state c.args.disk c.in-Err.disk c.args.limits c.in-Err.notice c.unrun.result c.unrun.ensures e.cause e.reads, refl);
     }

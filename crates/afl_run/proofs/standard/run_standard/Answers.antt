@@ -12,14 +12,14 @@ use Rattle.afl_run.proofs.StandardLemmas.{tries_nothing, tries_ran}
 use Rattle.afl_run.proofs.StreamsLemmas.{begun, fails_or_memory, reported, zip_length}
 use Rattle.afl_run.proofs.standard.run_standard.Goals as goal
 
-pub run_over-run-requires-clause-count : goal.run_over-run-requires-clause-count
-run_over-run-requires-clause-count g c κs within =
+pub run_alone-run-requires-clause-count : goal.run_alone-run-requires-clause-count
+run_alone-run-requires-clause-count g c κs within =
     let opened = IsOpenedFor g.F.S.Source.state g.F.K.Sink.state (g.F.Shelf.state c.args.shelf) in
     subst (λ (n : ℕ). (1 ≤ n) × (n ≤ 16)) (sym (zip_length opened c.args.names.now c.in-Ok.streams c.in-Ok.ensures.opened ∙ ap length c.requires.name))
     (lit≤ tt, lit≤ tt)
 
-pub run_over-run-requires-clause-begun : goal.run_over-run-requires-clause-begun
-run_over-run-requires-clause-begun g c κs within =
+pub run_alone-run-requires-clause-begun : goal.run_alone-run-requires-clause-begun
+run_alone-run-requires-clause-begun g c κs within =
     begun g.F.S.Source.state g.F.K.Sink.state (g.F.Shelf.state c.args.shelf) c.args.names.now c.in-Ok.streams c.in-Ok.ensures.opened
 
 pub returns-in-Ok-clause-runs : goal.returns-in-Ok-clause-runs
@@ -29,7 +29,7 @@ returns-in-Ok-clause-runs g c =
     let state = g.F.Shelf.state in
     let old = state c.args.shelf in
     let now = state c.open_streams.new.shelf in
-    let run = c.run_over-run.result in
+    let run = c.run_alone-run.result in
     let r = c.report_of.result in
     let e = c.report_of.ensures in
     let s = c.in-Ok.ensures in
@@ -42,7 +42,7 @@ returns-in-Ok-clause-runs g c =
     (tries_ran source sink old now c.args.disk (record { pages = 65536; history = 1048576 }) c.in-Ok.streams run c.requires.empty
     (subst (λ (names : List Word). AreOpenedFor source sink old names c.in-Ok.streams) is s.opened)
     (subst (λ (names : List Word). LeavesUnasked (stream_names names) old now) is s.others)
-    (subst (λ (names : List Word). HandsOut (length names) old now) is s.handed) refl refl c.run_over-run.ensures.run)
+    (subst (λ (names : List Word). HandsOut (length names) old now) is s.handed) refl refl c.run_alone-run.ensures.run)
 
 pub returns-in-Err-clause-runs : goal.returns-in-Err-clause-runs
 returns-in-Err-clause-runs g c =

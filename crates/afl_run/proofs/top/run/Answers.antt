@@ -20,44 +20,44 @@ word_at-name-requires g c = init_within c.args.words.now c.in-Ok-Init.device ((c
 pub word_at-target-requires : goal.word_at-target-requires
 word_at-target-requires g c =
     let form = c.in-Ok-Run in
-    device_within c.args.words.now form.device form.workers form.pages form.history form.printing form.scripts ((c.form_of.ensures.form (Run form.device form.workers form.pages form.history form.printing form.scripts)).0 (form.is ∙ ap Ok form.field-0-is))
+    device_within c.args.words.now form.device form.workers form.pages form.history form.printing form.dump form.scripts ((c.form_of.ensures.form (Run form.device form.workers form.pages form.history form.printing form.dump form.scripts)).0 (form.is ∙ ap Ok form.field-0-is))
 
 pub words_from-listed-requires : goal.words_from-listed-requires
 words_from-listed-requires g c =
     let form = c.in-Ok-Run in
-    scripts_within c.args.words.now form.device form.workers form.pages form.history form.printing form.scripts ((c.form_of.ensures.form (Run form.device form.workers form.pages form.history form.printing form.scripts)).0 (form.is ∙ ap Ok form.field-0-is))
+    scripts_within c.args.words.now form.device form.workers form.pages form.history form.printing form.dump form.scripts ((c.form_of.ensures.form (Run form.device form.workers form.pages form.history form.printing form.dump form.scripts)).0 (form.is ∙ ap Ok form.field-0-is))
 
 pub run_scripts-requires-clause-workers : goal.run_scripts-requires-clause-workers
 run_scripts-requires-clause-workers g c κs within =
     let form = c.in-Ok-Run in
-    workers_within c.args.words.now form.device form.workers form.pages form.history form.printing form.scripts
-    ((c.form_of.ensures.form (Run form.device form.workers form.pages form.history form.printing form.scripts)).0 (form.is ∙ ap Ok form.field-0-is))
+    workers_within c.args.words.now form.device form.workers form.pages form.history form.printing form.dump form.scripts
+    ((c.form_of.ensures.form (Run form.device form.workers form.pages form.history form.printing form.dump form.scripts)).0 (form.is ∙ ap Ok form.field-0-is))
 
 pub run_scripts-requires-clause-count : goal.run_scripts-requires-clause-count
 run_scripts-requires-clause-count g c κs within =
     let words = c.args.words.now in
     let form = c.in-Ok-Run in
-    let one : IsForm words (Run form.device form.workers form.pages form.history form.printing form.scripts) =
-    (c.form_of.ensures.form (Run form.device form.workers form.pages form.history form.printing form.scripts)).0 (form.is ∙ ap Ok form.field-0-is) in
+    let one : IsForm words (Run form.device form.workers form.pages form.history form.printing form.dump form.scripts) =
+    (c.form_of.ensures.form (Run form.device form.workers form.pages form.history form.printing form.dump form.scripts)).0 (form.is ∙ ap Ok form.field-0-is) in
     subst (λ (scripts : List Word). (1 ≤ length scripts) × (length scripts ≤ 16)) (sym c.words_from-listed.ensures)
-    (some_scripts words form.device form.workers form.pages form.history form.printing form.scripts one)
+    (some_scripts words form.device form.workers form.pages form.history form.printing form.dump form.scripts one)
 
 pub run_scripts-requires-clause-names : goal.run_scripts-requires-clause-names
 run_scripts-requires-clause-names g c κs within =
     let words = c.args.words.now in
     let form = c.in-Ok-Run in
-    let one : IsForm words (Run form.device form.workers form.pages form.history form.printing form.scripts) =
-    (c.form_of.ensures.form (Run form.device form.workers form.pages form.history form.printing form.scripts)).0 (form.is ∙ ap Ok form.field-0-is) in
-    subst (λ (scripts : List Word). HaveOwnNames scripts) (sym c.words_from-listed.ensures) (names_apart words form.device form.workers form.pages form.history form.printing form.scripts one)
+    let one : IsForm words (Run form.device form.workers form.pages form.history form.printing form.dump form.scripts) =
+    (c.form_of.ensures.form (Run form.device form.workers form.pages form.history form.printing form.dump form.scripts)).0 (form.is ∙ ap Ok form.field-0-is) in
+    subst (λ (scripts : List Word). HaveOwnNames scripts) (sym c.words_from-listed.ensures) (names_apart words form.device form.workers form.pages form.history form.printing form.dump form.scripts one)
 
 pub run_scripts-requires-clause-apart : goal.run_scripts-requires-clause-apart
 run_scripts-requires-clause-apart g c κs within =
     let words = c.args.words.now in
     let form = c.in-Ok-Run in
-    let one : IsForm words (Run form.device form.workers form.pages form.history form.printing form.scripts) =
-    (c.form_of.ensures.form (Run form.device form.workers form.pages form.history form.printing form.scripts)).0 (form.is ∙ ap Ok form.field-0-is) in
+    let one : IsForm words (Run form.device form.workers form.pages form.history form.printing form.dump form.scripts) =
+    (c.form_of.ensures.form (Run form.device form.workers form.pages form.history form.printing form.dump form.scripts)).0 (form.is ∙ ap Ok form.field-0-is) in
     subst (λ (scripts : List Word). All (λ name. c.word_at-target.result.now ≢ name) (stream_names scripts)) (sym c.words_from-listed.ensures)
-    (apart_from_device words form.device form.workers form.pages form.history form.printing form.scripts one c.word_at-target.result.now c.word_at-target.ensures)
+    (apart_from_device words form.device form.workers form.pages form.history form.printing form.dump form.scripts one c.word_at-target.result.now c.word_at-target.ensures)
 
 pub returns-in-Ok-Try : goal.returns-in-Ok-Try
 returns-in-Ok-Try g c =
@@ -72,7 +72,7 @@ returns-in-Ok-Try g c =
       usage = λ word. (λ is. absurd (tells word is), λ is. absurd (is.no_form Try one));
       untouched = λ word is. absurd (tells word is);
       nothing = λ word is. absurd (tells word is);
-      runs = λ workers pages history printing first run. absurd (try_or_run words workers pages history printing first one run);
+      runs = λ workers pages history printing dump first run. absurd (try_or_run words workers pages history printing first one run);
       tries = λ is. e.runs;
       generates = λ number workers generate. absurd (try_or_generate words number workers one generate);
       makes = λ init. absurd (try_or_init words one init);
@@ -99,7 +99,7 @@ returns-in-Ok-Init g c =
       usage = λ word. (λ is. absurd (tells word is), λ is. absurd (is.no_form (Init device) one));
       untouched = λ word is. absurd (tells word is);
       nothing = λ word is. absurd (tells word is);
-      runs = λ workers pages history printing first run. absurd (init_or_run words device workers pages history printing first one run);
+      runs = λ workers pages history printing dump first run. absurd (init_or_run words device workers pages history printing first one run);
       tries = λ is. absurd (init_or_try words device one is);
       generates = λ number workers generate. absurd (init_or_generate words number workers device one generate);
       makes = λ init. subst (λ (asked : Word). MakesDatabase moment old (state r.shelf) r.notice asked r.disk) (same_init words device one init _ named) e.makes;
@@ -117,7 +117,7 @@ returns-in-Ok-Run g c =
     let state = g.F.Shelf.state in
     let words = c.args.words.now in
     let form = c.in-Ok-Run in
-    let one : IsForm words (Run form.device form.workers form.pages form.history form.printing form.scripts) = (c.form_of.ensures.form (Run form.device form.workers form.pages form.history form.printing form.scripts)).0 (form.is ∙ ap Ok form.field-0-is) in
+    let one : IsForm words (Run form.device form.workers form.pages form.history form.printing form.dump form.scripts) = (c.form_of.ensures.form (Run form.device form.workers form.pages form.history form.printing form.dump form.scripts)).0 (form.is ∙ ap Ok form.field-0-is) in
     let old = state c.args.shelf in
     let r = c.run_scripts.result in
     let e = c.run_scripts.ensures in
@@ -126,17 +126,17 @@ returns-in-Ok-Run g c =
     let tells = scripts_tell (in_style form.printing) moment source sink old (state r.shelf) r.notice r.history r.free_pages r.sessions _ _ _ _ r.disk runs in
     record {
       status = e.status;
-      usage = λ word. (λ is. absurd (tells word is), λ is. absurd (is.no_form (Run form.device form.workers form.pages form.history form.printing form.scripts) one));
+      usage = λ word. (λ is. absurd (tells word is), λ is. absurd (is.no_form (Run form.device form.workers form.pages form.history form.printing form.dump form.scripts) one));
       untouched = λ word is. absurd (tells word is);
       nothing = λ word is. absurd (tells word is);
-      runs = λ workers pages history printing first run. runs_as words form.device form.workers form.pages form.history form.printing form.scripts one workers pages history printing first run moment source sink old (state r.shelf)
+      runs = λ workers pages history printing dump first run. runs_as words form.device form.workers form.pages form.history form.printing form.dump form.scripts one workers pages history printing dump first run moment source sink old (state r.shelf)
           r.notice r.history r.sessions r.free_pages r.disk c.word_at-target.result.now c.word_at-target.ensures runs;
-      tries = λ is. absurd (run_or_try words form.device form.workers form.pages form.history form.printing form.scripts one is);
-      generates = λ number workers generate. absurd (run_or_generate words number workers form.device form.workers form.pages form.history form.printing form.scripts one generate);
-      makes = λ init. absurd (run_or_init words form.device form.workers form.pages form.history form.printing form.scripts one init);
-      no_session = λ init. absurd (run_or_init words form.device form.workers form.pages form.history form.printing form.scripts one init);
-      no_device = λ is. absurd (run_or_try words form.device form.workers form.pages form.history form.printing form.scripts one is);
-      alone = λ number workers generate. absurd (run_or_generate words number workers form.device form.workers form.pages form.history form.printing form.scripts one generate);
+      tries = λ is. absurd (run_or_try words form.device form.workers form.pages form.history form.printing form.dump form.scripts one is);
+      generates = λ number workers generate. absurd (run_or_generate words number workers form.device form.workers form.pages form.history form.printing form.dump form.scripts one generate);
+      makes = λ init. absurd (run_or_init words form.device form.workers form.pages form.history form.printing form.dump form.scripts one init);
+      no_session = λ init. absurd (run_or_init words form.device form.workers form.pages form.history form.printing form.dump form.scripts one init);
+      no_device = λ is. absurd (run_or_try words form.device form.workers form.pages form.history form.printing form.dump form.scripts one is);
+      alone = λ number workers generate. absurd (run_or_generate words number workers form.device form.workers form.pages form.history form.printing form.dump form.scripts one generate);
       not_generated = λ other. e.generated;
     }
 
@@ -161,7 +161,7 @@ returns-in-Ok-Generate g c =
       usage = λ word. (λ is. absurd (tells word is), λ is. absurd (is.no_form (Generate form.number form.workers) one));
       untouched = λ word is. absurd (tells word is);
       nothing = λ word is. absurd (tells word is);
-      runs = λ workers pages history printing first run. absurd (run_or_generate words form.number form.workers 1 workers pages history printing first (refl, run) one);
+      runs = λ workers pages history printing dump first run. absurd (run_or_generate words form.number form.workers 1 workers pages history printing first (refl, run) one);
       tries = λ is. absurd (try_or_generate words form.number form.workers is one);
       generates = λ number workers generate. subst (λ (n : ℕ). RunsGenerate sure_disk_moment sure_source_state sink old (state r.shelf) r.notice r.history r.generated r.free_pages (script n))
           (same_number words form.number form.workers number workers one generate) e.runs;
@@ -187,7 +187,7 @@ returns-in-Err g c =
       );
       untouched = λ word is. e.shelf;
       nothing = λ word is. (e.sessions, e.history, e.free_pages, e.disk);
-      runs = λ workers pages history printing first run. absurd (fault.no_form (Run 1 workers pages history printing first) (refl, run));
+      runs = λ workers pages history printing dump first run. absurd (fault.no_form (Run 1 workers pages history printing dump first) (refl, run));
       tries = λ is. absurd (fault.no_form Try is);
       generates = λ number workers generate. absurd (fault.no_form (Generate number workers) generate);
       makes = λ init. absurd (fault.no_form (Init 1) (refl, init));

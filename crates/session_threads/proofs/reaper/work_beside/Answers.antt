@@ -1,4 +1,4 @@
 use Rattle.session_threads.proofs.reaper.work_beside.Goals as goal
 
-pub returns-clause-desks : goal.returns-clause-desks
-returns-clause-desks g c = c.beside_reaper.ensures.work
+pub returns-clause-tasks : goal.returns-clause-tasks
+returns-clause-tasks g c = c.beside_reaper.ensures.work

@@ -1,4 +1,4 @@
-use Rattle.std.proofs.Common.{◌≡◌, ◌≤◌, ap, length, refl, slice_get, vec_capacity, Some, sym, subst, arith}
+use Rattle.std.proofs.Common.{◌≡◌, ◌≤◌, ap, drop, length, refl, vec_capacity, sym, subst, arith}
 use Rattle.turn_lock.proofs.Gathering.{longer_by_one}
 use Rattle.snapshot_manager.proofs.Seating.{first_of_rest, less_one}
 use Rattle.session_threads.specs.Inner.Desks.{AreSeated}
@@ -6,16 +6,13 @@ use Rattle.session_threads.proofs.Desks.{is_left, seated_more}
 use Rattle.session_threads.proofs.run.seated.Goals as goal
 
 pub remove-seat-requires : goal.remove-seat-requires
-remove-seat-requires g c = is_left c.args.seats c.loop.seats c.loop.counter c.loop.invariant.seats (omega arith)
+remove-seat-requires g c = is_left c.args.seats c.loop.seats c.loop.counter c.loop.invariant.seats (omega (arith, c.requires.count))
 
 pub remove-first-requires : goal.remove-first-requires
 remove-first-requires g c = is_left c.args.streams c.loop.streams c.loop.counter c.loop.invariant.streams (omega arith)
 
 pub push_reserved-requires : goal.push_reserved-requires
 push_reserved-requires g c = omega arith
-
-pub remove-own-requires : goal.remove-own-requires
-remove-own-requires g c = is_left c.args.seats c.loop.seats c.loop.counter c.loop.invariant.seats (omega arith)
 
 pub loop-preserved : goal.loop-preserved
 loop-preserved g c =
@@ -30,11 +27,10 @@ loop-preserved g c =
           i.count i.seated c.push_reserved.ensures.items;
     }
 
-pub returns-clause-own : goal.returns-clause-own
-returns-clause-own g c =
-    let at = first_of_rest c.args.seats c.loop.seats c.loop.counter c.remove-own.result c.loop.invariant.seats c.remove-own.ensures.item in
+pub returns-clause-left : goal.returns-clause-left
+returns-clause-left g c =
     let all : c.loop.counter ≡ length c.args.streams = omega arith in
-    subst (λ n. slice_get c.args.seats n ≡ Some c.remove-own.result) all at
+    subst (λ n. c.loop.seats ≡ drop n c.args.seats) all c.loop.invariant.seats
 
 pub returns-clause-count : goal.returns-clause-count
 returns-clause-count g c = omega arith

@@ -1,4 +1,0 @@
-use Rattle.session_threads.proofs.reaper.fn.work_beside.sessions.Goals as goal
-
-pub returns : goal.returns
-returns g c = c.work_all.ensures
