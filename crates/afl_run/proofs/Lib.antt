@@ -3,6 +3,7 @@ pub mod CauseLemmas
 pub mod CompleteLemmas
 pub mod FormLemmas
 pub mod GeneratedLemmas
+pub mod InputLemmas
 pub mod MakingLemmas
 pub mod OverLemmas
 pub mod Reporting

@@ -9,7 +9,7 @@ use Rattle.file_meaning.proofs.Made.{made_stands}
 use Rattle.run_opening.specs.Names.{Word}
 use Rattle.run_opening.specs.Opened.{FailsToOpenDevice, IsOpenedDevice, LeavesUnasked}
 use Rattle.run_opening.specs.declared.reports.notices.Notice.{Notice}
-use Rattle.run_opening.specs.declared.reports.notices.Notice.TheVariants.{Done, Refused, Usage, Disk, Stream, Memory, NotDatabase, NotEmpty, Damaged}
+use Rattle.run_opening.specs.declared.reports.notices.Notice.TheVariants.{Done, Refused, Usage, Disk, Stream, Memory, NotDatabase, NotEmpty, Damaged, NotBackup, WrongOverlap, Full}
 use Rattle.afl_run.specs.Init.{HoldsNoArrays, TellsDevice, notice_by}
 use Rattle.afl_run.specs.Inner.Making.{Makes}
 use Rattle.afl_run.specs.Run.{MakesDatabase}
@@ -67,6 +67,9 @@ module _ (asked : Word) (old new : Moment) (handed : IsNewDisk asked old.state) 
   tells (Stream session) makes = absurd makes
   tells (NotDatabase page) makes = absurd makes
   tells (Damaged page) makes = absurd makes
+  tells (NotBackup at) makes = absurd makes
+  tells (WrongOverlap page) makes = absurd makes
+  tells (Full needed free) makes = absurd makes
 
 -- ---- what these bytes decide
 
@@ -90,6 +93,9 @@ by_bytes (Usage word) disk bytes first tells calm = absurd tells
 by_bytes (Stream session) disk bytes first tells calm = absurd tells
 by_bytes (NotDatabase page) disk bytes first tells calm = absurd tells
 by_bytes (Damaged page) disk bytes first tells calm = absurd tells
+by_bytes (NotBackup at) disk bytes first tells calm = absurd tells
+by_bytes (WrongOverlap page) disk bytes first tells calm = absurd tells
+by_bytes (Full needed free) disk bytes first tells calm = absurd tells
 
 module _ (notice : Notice) (old new : Moment) (goes : DiskGoesOn old.state new.state) (tells : TellsDevice notice new) where
   complete_of : (o : Option (List ℕ)) → IfSome o (λ bytes. old.state.first ≡ Some bytes)

@@ -57,6 +57,9 @@ only_memory (notices.Usage word) disk later empty tells = absurd tells
 only_memory (notices.Stream session) disk later empty tells = absurd tells
 only_memory (notices.NotEmpty count) disk later empty tells = absurd tells
 only_memory (notices.Damaged page) disk later empty tells = absurd tells
+only_memory (notices.NotBackup at) disk later empty tells = absurd tells
+only_memory (notices.WrongOverlap page) disk later empty tells = absurd tells
+only_memory (notices.Full needed free) disk later empty tells = absurd tells
 
 -- what the store began as is a database of no arrays
 pub began_empty : {D : Type 0} (moment : D → Moment) (disk : D) (limits : Limits) (end : Standing D) → BeganOver moment disk limits (start_of end) → IsEmpty (moment disk)
@@ -131,10 +134,10 @@ pub never_fails : {S K : Type 0} {source_state : S → SourceState} {sink_state 
 never_fails end causes is = let rose : risen 0 ≤ 0 = causes.disk is in absurd (omega (arith, rose))
 
 pub answers_all : {S K : Type 0} {source_state : S → SourceState} {sink_state : K → SinkState} (sessions : List (SessionReport S K)) (notice : Notice) (end : Standing SureBytes)
-    → HasCause sure_disk_moment source_state sink_state sessions notice end → (db : Database) → BeganAs (sure_disk_moment end.opened.disk).state db
+    → HasCause sure_disk_moment source_state sink_state sessions None notice end → (db : Database) → BeganAs (sure_disk_moment end.opened.disk).state db
     → HaveNoFaults source_state sink_state sessions → (notice ≡ notices.Memory) ⊎ (notice ≡ notice_of sessions None) → IsOfAnswers notice
 answers_all sessions notice end causes db database calm told =
-    answered sessions notice end causes (never_fails end causes) (λ page is. causes.damaged page is db database) calm told
+    answered sessions None notice end causes (never_fails end causes) (λ page is. causes.damaged page is db database) calm tt told
 
 module _ {S K : Type 0} (source_state : S → SourceState) (sink_state : K → SinkState) (old now : ShelfState) where
   pub tries_nothing : (told : Notice) → LeavesUnasked (stream_names (standard ∷ [])) old now → HandsOutSome 1 old now

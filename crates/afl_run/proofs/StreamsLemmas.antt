@@ -1,5 +1,5 @@
 -- What a run over a device reports, once its device was opened, and over all.
-use Rattle.std.proofs.Common.{◌≡◌, ◌≢◌, ◌⊎◌, ℕ, zero, suc, ◌+◌, ◌<◌, ◌≤◌, List, [], ◌∷◌, length, get_or, map, All, Option, Some, None, IfSome, IsSomeAnd, slice_get, inl, inr, refl, sym, ◌∙◌, ap, subst, arith}
+use Rattle.std.proofs.Common.{◌≡◌, ◌≢◌, ◌⊎◌, ℕ, zero, suc, ◌+◌, ◌<◌, ◌≤◌, List, [], ◌∷◌, ◌++◌, length, get_or, map, All, Option, Some, None, IfSome, IsSomeAnd, slice_get, inl, inr, refl, sym, ◌∙◌, ap, subst, arith}
 use Rattle.std.specs.List.{AllZip}
 use Rattle.afl_lexer.specs.Inner.Standing.{StandsAfter}
 use Rattle.afl_outside.specs.Counts.{Rose, risen}
@@ -34,9 +34,15 @@ use Rattle.afl_run.specs.Printed.{IsOpenedAs, Prints}
 use Rattle.session_threads.proofs.InHistories.{sessions_stay}
 use Rattle.session_threads.specs.Histories.{IsMarkedIn}
 use Rattle.store_state.specs.declared.state.event.Event.{Event}
-use Rattle.afl_run.specs.Run.{AreOfScripts, BeganFrom, CountsPages, HandsOutStreams, IsOfStore, RunsScripts, TellsUnrun, WasOnlyRead}
+use Rattle.afl_run.specs.Run.{AreOfScripts, BeganFrom, CountsPages, FailsToOpenBackup, HandsOutStreams, HasNoReport, IsOfStore, RunsScripts, TellsUnrun, WasOnlyRead}
 use Rattle.afl_run.specs.Inner.Over.{IsUnrun, RunsOver, WasShort}
-use Rattle.afl_run.specs.Inner.Streams.{IsAsBegun, RunsOn}
+use Rattle.afl_run.specs.Inner.Streams.{FailsToOpenInputs, IsAsBegun, IsSinkFor, RunsOn}
+use Rattle.afl_run.specs.Backups.{ended, IsBackupOpenedAs, IsBackupReportOf}
+use Rattle.run_opening.specs.declared.reports.reports.BackupEnd.TheVariants as backup_ends
+use Rattle.run_opening.specs.declared.reports.reports.BackupReport.{BackupReport}
+use Rattle.session_threads.specs.Sessions.{seats_for, HasBackup}
+use Rattle.afl_run.proofs.BackupLemmas.{as_many_in_all, has_reported, sink_rose}
+use Rattle.afl_run.proofs.InputLemmas.{backup_opened_as, backup_since, fresh_given, rose_since, seats_asked, seats_made}
 use Rattle.page_chain.proofs.RunLemmas.{stands}
 use Rattle.page_chain.specs.Puts.{OnlySyncs}
 use Rattle.afl_run.proofs.CompleteLemmas.{complete_from}
@@ -154,7 +160,7 @@ module _ {D S K : Type 0} (style : Style) (moment : D → Moment) (source_state 
     backup_of start session all has = has_reported moment sink_state start session given backup all fresh_sink has
 
     broken_backup_rose : (start : Start D) (session : ℕ) (all : List Event) → HasBackup moment sink_state start session given backup all
-        → ended backup ≡ Some backups.Sink → IsSomeAnd backup (λ report. Rose 0 (sink_state report.sink).faults)
+        → ended backup ≡ Some backup_ends.Sink → IsSomeAnd backup (λ report. Rose 0 (sink_state report.sink).faults)
     broken_backup_rose start session all has is = sink_rose moment sink_state start session given backup all fresh_sink has is
 
   pub one_history : (disk : D) (limits : Limits) (given : Option K) (fresh_sink : IfSome given (λ sink. (name : Word) × IsNewSink name (sink_state sink)))
@@ -191,18 +197,21 @@ module _ {D S K : Type 0} (style : Style) (moment : D → Moment) (source_state 
 -- ---- once the device was opened
 
 -- what is told of an opened store is told of the device
-tells_unopened : (notice : Notice) (asked : Word) (scripts : List Word) (disk later : DiskState) (old new : ShelfState) → IsAsBegun disk → DiskGoesOn disk later
-    → TellsUnopened notice disk later → TellsUnrun notice asked scripts (Some later) old new
-tells_unopened notices.Memory asked scripts disk later old new begins goes tells = tt
-tells_unopened notices.Disk asked scripts disk later old new begins goes tells = subst (λ (n : ℕ). Rose n later.faults) begins.faults tells
-tells_unopened (notices.NotDatabase page) asked scripts disk later old new begins goes tells =
+tells_unopened : (notice : Notice) (asked : Word) (scripts backups : List Word) (disk later : DiskState) (old new : ShelfState) → IsAsBegun disk → DiskGoesOn disk later
+    → TellsUnopened notice disk later → TellsUnrun notice asked scripts backups (Some later) old new
+tells_unopened notices.Memory asked scripts backups disk later old new begins goes tells = tt
+tells_unopened notices.Disk asked scripts backups disk later old new begins goes tells = subst (λ (n : ℕ). Rose n later.faults) begins.faults tells
+tells_unopened (notices.NotDatabase page) asked scripts backups disk later old new begins goes tells =
     subst (λ (o : Option (List ℕ)). IfSome o (IsWrongAt page)) (begins.seen ∙ sym goes.first) tells
-tells_unopened notices.Done asked scripts disk later old new begins goes tells = absurd tells
-tells_unopened notices.Refused asked scripts disk later old new begins goes tells = absurd tells
-tells_unopened (notices.Usage word) asked scripts disk later old new begins goes tells = absurd tells
-tells_unopened (notices.Stream session) asked scripts disk later old new begins goes tells = absurd tells
-tells_unopened (notices.NotEmpty count) asked scripts disk later old new begins goes tells = absurd tells
-tells_unopened (notices.Damaged page) asked scripts disk later old new begins goes tells = absurd tells
+tells_unopened notices.Done asked scripts backups disk later old new begins goes tells = absurd tells
+tells_unopened notices.Refused asked scripts backups disk later old new begins goes tells = absurd tells
+tells_unopened (notices.Usage word) asked scripts backups disk later old new begins goes tells = absurd tells
+tells_unopened (notices.Stream session) asked scripts backups disk later old new begins goes tells = absurd tells
+tells_unopened (notices.NotEmpty count) asked scripts backups disk later old new begins goes tells = absurd tells
+tells_unopened (notices.Damaged page) asked scripts backups disk later old new begins goes tells = absurd tells
+tells_unopened (notices.NotBackup at) asked scripts backups disk later old new begins goes tells = absurd tells
+tells_unopened (notices.WrongOverlap page) asked scripts backups disk later old new begins goes tells = absurd tells
+tells_unopened (notices.Full needed free) asked scripts backups disk later old new begins goes tells = absurd tells
 
 -- of a store that isn't opened no stream is told
 pub stops_nowhere : {S K : Type 0} (source_state : S → SourceState) (sink_state : K → SinkState) (notice : Notice) (scripts : List Word) (disk later : DiskState)
@@ -216,11 +225,17 @@ stops_nowhere source_state sink_state (notices.Usage word) scripts disk later ol
 stops_nowhere source_state sink_state (notices.Stream session) scripts disk later old new tells = absurd tells
 stops_nowhere source_state sink_state (notices.NotEmpty count) scripts disk later old new tells = tt
 stops_nowhere source_state sink_state (notices.Damaged page) scripts disk later old new tells = tt
+stops_nowhere source_state sink_state (notices.NotBackup at) scripts disk later old new tells = tt
+stops_nowhere source_state sink_state (notices.WrongOverlap page) scripts disk later old new tells = tt
+stops_nowhere source_state sink_state (notices.Full needed free) scripts disk later old new tells = tt
 
 -- nor is the store of streams that aren't opened
-not_of_store : (notice : Notice) (scripts : List Word) (old new : ShelfState) → (notice ≡ notices.Memory) ⊎ FailsToOpen scripts notice old new → IsOfStore notice → ⊥
-not_of_store notice scripts old new fails is = elim fails [
-  | inl memory ↦ absurd (subst (λ (n : Notice). IsOfStore n) memory is)
+not_of_store : (notice : Notice) (scripts backups : List Word) (old new : ShelfState) → FailsToOpenInputs scripts backups notice old new → IsOfStore notice → ⊥
+not_of_store notice scripts backups old new fails is = elim fails [
+  | inl last ↦ elim last [
+    | inl memory ↦ absurd (subst (λ (n : Notice). IsOfStore n) memory is)
+    | inr reply ↦ absurd (subst (λ (n : Notice). IsOfStore n) reply.0 is)
+  ]
   | inr why ↦ elim why [
     | inl want ↦ absurd (subst (λ (n : Notice). IsOfStore n) want.0 is)
     | inr stream ↦ absurd (subst (λ (n : Notice). IsOfStore n) stream.1 is)
@@ -228,26 +243,31 @@ not_of_store notice scripts old new fails is = elim fails [
 ]
 
 -- what is told of streams that are not opened
-tells_stream : (notice : Notice) (asked : Word) (scripts : List Word) (device : DiskState) (old new : ShelfState)
-    → (notice ≡ notices.Memory) ⊎ FailsToOpen scripts notice old new → TellsUnrun notice asked scripts (Some device) old new
-tells_stream notice asked scripts device old new fails = elim fails [
-  | inl memory ↦ subst (λ (n : Notice). TellsUnrun n asked scripts (Some device) old new) (sym memory) tt
+tells_stream : (notice : Notice) (asked : Word) (scripts backups : List Word) (device : DiskState) (old new : ShelfState)
+    → FailsToOpenInputs scripts backups notice old new → TellsUnrun notice asked scripts backups (Some device) old new
+tells_stream notice asked scripts backups device old new fails = elim fails [
+  | inl last ↦ elim last [
+    | inl memory ↦ subst (λ (n : Notice). TellsUnrun n asked scripts backups (Some device) old new) (sym memory) tt
+    | inr reply ↦ subst (λ (n : Notice). TellsUnrun n asked scripts backups (Some device) old new) (sym reply.0) (inr reply.1)
+  ]
   | inr why ↦ elim why [
-    | inl want ↦ subst (λ (n : Notice). TellsUnrun n asked scripts (Some device) old new) (sym want.0) tt
-    | inr stream ↦ subst (λ (n : Notice). TellsUnrun n asked scripts (Some device) old new) (sym stream.1) (inr (stream.0, refl, stream.2))
+    | inl want ↦ subst (λ (n : Notice). TellsUnrun n asked scripts backups (Some device) old new) (sym want.0) tt
+    | inr stream ↦ subst (λ (n : Notice). TellsUnrun n asked scripts backups (Some device) old new) (sym stream.1) (inl (inr (stream.0, refl, stream.2)))
   ]
 ]
 
-module _ {D S K : Type 0} (style : Style) (moment : D → Moment) (source_state : S → SourceState) (sink_state : K → SinkState) (old now : ShelfState) (disk : D) (scripts : List Word)
-    (limits : Limits) (others : LeavesUnasked (stream_names scripts) old now) where
-  pub on_unopened : (told : Notice) → HandsOutSome (length scripts) old now → (told ≡ notices.Memory) ⊎ FailsToOpen scripts told old now
-      → StopsAt source_state sink_state scripts old now told
+module _ {D S K : Type 0} (style : Style) (moment : D → Moment) (source_state : S → SourceState) (sink_state : K → SinkState) (old now : ShelfState) (disk : D)
+    (scripts backups : List Word) (limits : Limits) (others : LeavesUnasked (stream_names scripts ++ backups) old now) where
+  pub on_unopened : (told : Notice) → HandsOutSome (length scripts + length backups) old now → FailsToOpenInputs scripts backups told old now
+      → StopsAt source_state sink_state scripts old now told ⊎ FailsToOpenBackup scripts backups (length scripts) old now
       → OnlySyncs (moment disk) (moment disk)
-      → RunsOn style moment source_state sink_state old now told [] [] 0 disk scripts limits.pages limits.history (Some disk)
+      → RunsOn style moment source_state sink_state old now told [] [] None 0 disk scripts backups limits.pages limits.history (Some disk)
   on_unopened told some fails stops still = record {
     untouched = λ is. still;
     opened = inl refl;
-    all = λ is. absurd (not_of_store told scripts old now fails is);
+    backup_opened = tt;
+    backed_up = λ ran. absurd (ran (refl, refl));
+    all = λ is. absurd (not_of_store told scripts backups old now fails is);
     first = λ is. stops;
     unwritten = λ is. refl;
     goes_on = stands (moment disk).state;
@@ -258,17 +278,19 @@ module _ {D S K : Type 0} (style : Style) (moment : D → Moment) (source_state 
       most = some.1;
       reported = inl refl;
     };
-    none = λ is. (refl, inl refl, λ asked. tells_stream told asked scripts (moment disk).state old now fails);
-    told = λ ran. absurd (ran refl);
-    one = λ ran. absurd (ran refl);
+    none = λ is. (refl, inl refl, λ asked. tells_stream told asked scripts backups (moment disk).state old now fails);
+    told = λ ran. absurd (ran (refl, refl));
+    one = λ ran. absurd (ran (refl, refl));
   }
 
-  module _ (streams : List (Streams S K)) (run : StoreRun D S K) (opened : AreOpenedFor source_state sink_state old scripts streams) (hands : HandsOut (length scripts) old now)
-      (some : 1 ≤ length scripts) (begins : IsAsBegun (moment disk).state) (goes : DiskGoesOn (moment disk).state (moment run.disk).state) where
-    all_replies : (reported : (length run.sessions ≡ 0) ⊎ (length scripts ≡ length run.sessions)) → HandsOutStreams 0 (length scripts) (length run.sessions) old now
-    all_replies reported = record {
-      replies = length scripts;
-      handed = λ fits. let is : now.handed ≡ old.handed + length scripts = hands (omega (arith, fits)) in omega (arith, is);
+  module _ (streams : List (Streams S K)) (given : Option K) (run : StoreRun D S K) (backup : Option (BackupReport K))
+      (opened : AreOpenedFor source_state sink_state old scripts streams) (sink_opened : IsSinkFor sink_state old backups given) (few : length backups ≤ 1)
+      (hands : HandsOut (length scripts + length backups) old now) (some : 1 ≤ length scripts + length backups) (begins : IsAsBegun (moment disk).state)
+      (goes : DiskGoesOn (moment disk).state (moment run.disk).state) where
+    all_replies : (reports : ℕ) → (reports ≡ 0) ⊎ (length scripts + length backups ≡ reports) → HandsOutStreams 0 (length scripts + length backups) reports old now
+    all_replies reports reported = record {
+      replies = length scripts + length backups;
+      handed = λ fits. let is : now.handed ≡ old.handed + (length scripts + length backups) = hands (omega (arith, fits)) in omega (arith, is);
       most = omega arith;
       reported = reported;
     }
@@ -291,47 +313,67 @@ module _ {D S K : Type 0} (style : Style) (moment : D → Moment) (source_state 
       | inr short ↦ inr (short.memory, (short.store, began_from short.store short.began short.is_disk, short.entries, short.pages))
     ]
 
-    on_unrun : IsUnrun moment disk limits run
-        → RunsOn style moment source_state sink_state old now run.notice run.history run.sessions run.free_pages disk scripts limits.pages limits.history (Some run.disk)
-    on_unrun unrun = record {
+    on_unrun : IsUnrun moment disk limits run → backup ≡ None
+        → RunsOn style moment source_state sink_state old now run.notice run.history run.sessions backup run.free_pages disk scripts backups limits.pages limits.history (Some run.disk)
+    on_unrun unrun none = record {
       opened = inl unrun.none;
+      backup_opened = subst (λ (o : Option (BackupReport K)). IfSome o (λ report. All (λ name. IsBackupOpenedAs old name (sink_state report.sink)) backups)) (sym none) tt;
+      backed_up = λ ran. absurd (ran (unrun.none, none));
       all = λ is. hands;
-      first = λ is. stops_nowhere source_state sink_state run.notice scripts (moment disk).state (moment run.disk).state old now unrun.cause;
+      first = λ is. inl (stops_nowhere source_state sink_state run.notice scripts (moment disk).state (moment run.disk).state old now unrun.cause);
       unwritten = λ is. unrun.unwritten;
       untouched = λ is. unrun.syncs;
       goes_on = goes;
       others = others;
-      handed = all_replies (inl (ap length unrun.none));
-      none = λ is. (unrun.nothing, counts_pages unrun.pages, λ asked. tells_unopened run.notice asked scripts (moment disk).state (moment run.disk).state old now begins goes unrun.cause);
-      told = λ ran. absurd (ran unrun.none);
-      one = λ ran. absurd (ran unrun.none);
+      handed = all_replies (length run.sessions + seats_for backup)
+          (inl (let empty : length run.sessions ≡ 0 = ap length unrun.none in let no_seat : seats_for backup ≡ 0 = ap seats_for none in omega (arith, empty, no_seat)));
+      none = λ is. (unrun.nothing, counts_pages unrun.pages, λ asked. tells_unopened run.notice asked scripts backups (moment disk).state (moment run.disk).state old now begins goes unrun.cause);
+      told = λ ran. absurd (ran (unrun.none, none));
+      one = λ ran. absurd (ran (unrun.none, none));
     }
 
-    module _ (end : Standing D) (over : RunsOver style moment source_state sink_state disk limits streams end run) where
+    module _ (end : Standing D) (over : RunsOver style moment source_state sink_state disk limits streams given end run backup) where
       as_many : length run.sessions ≡ length scripts
       as_many = over.runs.count ∙ zip_length (IsOpenedFor source_state sink_state old) scripts streams opened
 
-      some_ran : run.sessions ≡ [] → ⊥
-      some_ran is = let many = as_many in let empty : length run.sessions ≡ 0 = ap length is in absurd (omega (arith, many, empty, some))
+      as_many_backups : seats_for backup ≡ length backups
+      as_many_backups = seats_made moment sink_state (start_of end) (length streams) given backup (events end) over.runs.dumped ∙ seats_asked sink_state old backups given few sink_opened
 
-      on_over : RunsOn style moment source_state sink_state old now run.notice run.history run.sessions run.free_pages disk scripts limits.pages limits.history (Some run.disk)
+      some_ran : HasNoReport run.sessions backup → ⊥
+      some_ran is =
+          let many = as_many in
+          let made = as_many_backups in
+          let empty : length run.sessions ≡ 0 = ap length is.0 in
+          let no_seat : seats_for backup ≡ 0 = ap seats_for is.1 in
+          absurd (omega (arith, many, made, empty, no_seat, some))
+
+      on_over : RunsOn style moment source_state sink_state old now run.notice run.history run.sessions backup run.free_pages disk scripts backups limits.pages limits.history (Some run.disk)
       on_over = record {
         opened = inr (reports_opened style moment source_state sink_state old scripts streams opened (start_of end) run.sessions end over.runs.count over.runs.each);
+        backup_opened = backup_opened_as moment sink_state (start_of end) (length streams) old backups given backup (events end) few sink_opened over.runs.dumped;
+        backed_up = λ ran. (as_many, as_many_backups);
         goes_on = goes;
         others = others;
-        handed = all_replies (inr (sym as_many));
+        handed = all_replies (length run.sessions + seats_for backup) (inr (let many = as_many in let made = as_many_backups in omega (arith, many, made)));
         all = λ is. hands;
         first = λ is. absurd (some_ran is);
         unwritten = λ is. absurd (some_ran is);
         untouched = λ is. absurd (some_ran is);
         none = λ is. absurd (some_ran is);
         told = λ ran. over.runs.told;
-        one = λ ran. (end, one_history style moment source_state sink_state streams (opened_fresh style moment source_state sink_state old scripts streams opened) disk limits run end over, began_from end over.opened over.runs.ends.is_disk, over.opened.synced);
+        one = λ ran. (
+          end,
+          one_history style moment source_state sink_state streams (opened_fresh style moment source_state sink_state old scripts streams opened) disk limits given
+              (fresh_given sink_state old backups given sink_opened) run backup end over,
+          began_from end over.opened over.runs.ends.is_disk,
+          over.opened.synced,
+        );
       }
 
-    pub on_ran : IsUnrun moment disk limits run ⊎ ((end : Standing D) × RunsOver style moment source_state sink_state disk limits streams end run)
-        → RunsOn style moment source_state sink_state old now run.notice run.history run.sessions run.free_pages disk scripts limits.pages limits.history (Some run.disk)
-    on_ran ran = elim ran [ inl unrun ↦ on_unrun unrun | inr over ↦ on_over over.0 over.1 ]
+    pub on_ran : (IsUnrun moment disk limits run × (backup ≡ None))
+        ⊎ ((end : Standing D) × RunsOver style moment source_state sink_state disk limits streams given end run backup)
+        → RunsOn style moment source_state sink_state old now run.notice run.history run.sessions backup run.free_pages disk scripts backups limits.pages limits.history (Some run.disk)
+    on_ran ran = elim ran [ inl unrun ↦ on_unrun unrun.0 unrun.1 | inr over ↦ on_over over.0 over.1 ]
 
 -- ---- a report that has these parts
 
@@ -348,9 +390,6 @@ module _ {F D S K : Type 0} (state : F → ShelfState) (P : ShelfState → Notic
       (subst (λ (x : Option D). P (state shelf) told entries reports pages x) (sym d) holds)))))
 
 -- ---- over all
-
-rose_since : (first before now : ℕ) → first ≤ before → Rose before now → Rose first now
-rose_since first before now le rose = omega (arith, le, rose)
 
 pub leaves_asked : (asked : Word) (names : List Word) (old mid new : ShelfState) → LeavesOthers asked old mid → LeavesUnasked names mid new → LeavesUnasked (asked ∷ names) old new
 leaves_asked asked names old mid new others leaves = record {
@@ -371,13 +410,19 @@ leaves_same names s = record { scripts = λ n all. refl; replies = λ n all. ref
 abbrev IsToldTheSame : ShelfState → ShelfState → Word → Type 0
 IsToldTheSame old mid script = (mid.scripts script ≡ old.scripts script) × (mid.replies (reply_name script) ≡ old.replies (reply_name script))
 
-module _ (asked : Word) (scripts : List Word) (old mid : ShelfState) (others : LeavesOthers asked old mid) (apart : All (λ m. asked ≢ m) (stream_names scripts)) where
+module _ (asked : Word) (scripts backups : List Word) (old mid : ShelfState) (others : LeavesOthers asked old mid) (apart : All (λ m. asked ≢ m) (stream_names scripts ++ backups)) where
+  streams_apart : All (λ m. asked ≢ m) (stream_names scripts)
+  streams_apart = front_all asked (stream_names scripts) backups apart
+
   told_same : All (IsToldTheSame old mid) scripts
   told_same k d lt = (
-    others.scripts (get_or scripts k d) (λ is. front_all asked scripts (map reply_name scripts) apart k d lt (sym is)),
+    others.scripts (get_or scripts k d) (λ is. front_all asked scripts (map reply_name scripts) streams_apart k d lt (sym is)),
     others.replies (reply_name (get_or scripts k d))
-        (λ is. map_all reply_name (λ m. asked ≢ m) scripts (back_all asked scripts (map reply_name scripts) apart) k d lt (sym is)),
+        (λ is. map_all reply_name (λ m. asked ≢ m) scripts (back_all asked scripts (map reply_name scripts) streams_apart) k d lt (sym is)),
   )
+
+  backups_same : All (λ b. mid.replies b ≡ old.replies b) backups
+  backups_same k d lt = others.replies (get_or backups k d) (λ is. back_all asked (stream_names scripts) backups apart k d lt (sym is))
 
   fails_since : (notice : Notice) (new : ShelfState) → FailsToOpen scripts notice mid new → FailsToOpen scripts notice old new
   fails_since notice new fails = elim fails [
@@ -394,16 +439,32 @@ module _ (asked : Word) (scripts : List Word) (old mid : ShelfState) (others : L
     )
   ]
 
-  tells_since : (notice : Notice) (device : DiskState) (new : ShelfState) → TellsUnrun notice asked scripts (Some device) mid new → TellsUnrun notice asked scripts (Some device) old new
+  tells_since : (notice : Notice) (device : DiskState) (new : ShelfState) → TellsUnrun notice asked scripts backups (Some device) mid new
+      → TellsUnrun notice asked scripts backups (Some device) old new
   tells_since notices.Memory device new tells = tt
   tells_since notices.Disk device new tells = tells
-  tells_since (notices.Stream session) device new tells = fails_since (notices.Stream session) new tells
+  tells_since (notices.Stream session) device new tells = elim tells [
+    | inl fails ↦ inl (fails_since (notices.Stream session) new fails)
+    | inr fails ↦ inr (backup_since scripts backups old mid new others.later backups_same session fails)
+  ]
   tells_since (notices.NotDatabase page) device new tells = tells
   tells_since notices.Done device new tells = absurd tells
   tells_since notices.Refused device new tells = absurd tells
   tells_since (notices.Usage word) device new tells = absurd tells
   tells_since (notices.NotEmpty count) device new tells = absurd tells
   tells_since (notices.Damaged page) device new tells = absurd tells
+  tells_since (notices.NotBackup at) device new tells = absurd tells
+  tells_since (notices.WrongOverlap page) device new tells = absurd tells
+  tells_since (notices.Full needed free) device new tells = absurd tells
+
+  backup_opened_since : {K : Type 0} (sink_state : K → SinkState) (backup : Option (BackupReport K))
+      → IfSome backup (λ report. All (λ name. IsBackupOpenedAs mid name (sink_state report.sink)) backups)
+      → IfSome backup (λ report. All (λ name. IsBackupOpenedAs old name (sink_state report.sink)) backups)
+  backup_opened_since sink_state None opened = tt
+  backup_opened_since sink_state (Some report) opened = λ k d lt. record {
+    name_told = (opened k d lt).name_told;
+    content = subst (λ (o : Option Word). IfSome o (λ bytes. (sink_state report.sink).first ≡ Some bytes)) (backups_same k d lt) (opened k d lt).content;
+  }
 
   opened_since : {S K : Type 0} (source_state : S → SourceState) (sink_state : K → SinkState) (sessions : List (SessionReport S K))
       → AreOfScripts source_state sink_state mid scripts sessions → AreOfScripts source_state sink_state old scripts sessions
@@ -421,15 +482,17 @@ module _ (asked : Word) (scripts : List Word) (old mid : ShelfState) (others : L
   ]
 
   module _ {D S K : Type 0} (style : Style) (moment : D → Moment) (source_state : S → SourceState) (sink_state : K → SinkState) (new : ShelfState) (notice : Notice) (history : List Entry)
-      (sessions : List (SessionReport S K)) (free pages limit : ℕ) (disk : D) (is_new : IsNewDisk asked (moment disk).state)
+      (sessions : List (SessionReport S K)) (backup : Option (BackupReport K)) (free pages limit : ℕ) (disk : D) (is_new : IsNewDisk asked (moment disk).state)
       (content : IfSome (old.devices asked) (λ bytes. (moment disk).state.first ≡ Some bytes)) (handed : mid.handed ≡ risen old.handed) where
-    pub runs_scripts : (device : Option D) → RunsOn style moment source_state sink_state mid new notice history sessions free disk scripts pages limit device
-        → RunsScripts style moment source_state sink_state old new notice history sessions free asked scripts pages limit device
+    pub runs_scripts : (device : Option D) → RunsOn style moment source_state sink_state mid new notice history sessions backup free disk scripts backups pages limit device
+        → RunsScripts style moment source_state sink_state old new notice history sessions backup free asked scripts backups pages limit device
     runs_scripts None on = absurd on.goes_on
     runs_scripts (Some later) on = record {
       opened = opened_since source_state sink_state sessions on.opened;
+      backup_opened = backup_opened_since sink_state backup on.backup_opened;
+      backed_up = on.backed_up;
       is_asked = is_opened asked (moment disk) (moment later) is_new on.goes_on old content;
-      others = leaves_asked asked (stream_names scripts) old mid new others on.others;
+      others = leaves_asked asked (stream_names scripts ++ backups) old mid new others on.others;
       handed = record {
         replies = on.handed.replies;
         handed = λ fits. let is : new.handed ≡ mid.handed + (0 + on.handed.replies) = on.handed.handed (omega (arith, fits, handed)) in omega (arith, is, handed, fits);
@@ -438,7 +501,7 @@ module _ (asked : Word) (scripts : List Word) (old mid : ShelfState) (others : L
       };
       in_order = record {
         none = λ is. absurd (cc (is));
-        all = λ is fits. let h : new.handed ≡ mid.handed + length scripts = on.all is (omega (arith, fits, handed)) in omega (arith, h, handed, fits);
+        all = λ is fits. let h : new.handed ≡ mid.handed + (length scripts + length backups) = on.all is (omega (arith, fits, handed)) in omega (arith, h, handed, fits);
       };
       first = λ is. (mid, others, (λ fits. omega (arith, handed, fits)), on.first is);
       unasked = λ is. absurd (cc (is));
@@ -447,26 +510,28 @@ module _ (asked : Word) (scripts : List Word) (old mid : ShelfState) (others : L
       told = on.told;
       one = ran;
       untouched = λ is. record { handed = disk; is_new = is_new; syncs = on.untouched is };
-      complete = complete_from style moment source_state sink_state old new notice history sessions free asked scripts pages limit (Some later) tells_none on.told ran;
+      complete = complete_from style moment source_state sink_state old new notice history sessions backup free asked scripts backups pages limit (Some later) tells_none on.told ran;
     }
       where
-        tells_none : sessions ≡ [] → (history ≡ []) × CountsPages (BeganFrom moment pages limit (Some later)) notice free
-            × TellsUnrun notice asked scripts (Some (moment later).state) old new
+        tells_none : HasNoReport sessions backup → (history ≡ []) × CountsPages (BeganFrom moment pages limit (Some later)) notice free
+            × TellsUnrun notice asked scripts backups (Some (moment later).state) old new
         tells_none is = let n = on.none is in (n.0, n.1, tells_since notice (moment later).state new (n.2 asked))
 
-        ran : sessions ≢ [] → (store : Standing D) × IsOneHistory style moment source_state sink_state sessions notice history free store
+        ran : (HasNoReport sessions backup → ⊥) → (store : Standing D) × IsOneHistory style moment source_state sink_state sessions backup notice history free store
             × BeganFrom moment pages limit (Some later) store × WasOnlyRead moment asked (moment store.opened.disk)
         ran some = let o = on.one some in (o.0, o.1, o.2, record { handed = disk; is_new = is_new; syncs = o.3 })
 
-module _ {D S K : Type 0} (style : Style) (moment : D → Moment) (source_state : S → SourceState) (sink_state : K → SinkState) (old now : ShelfState) (asked : Word) (scripts : List Word)
-    (pages limit : ℕ) where
-  -- the device was not opened
-  pub runs_nothing : (told : Notice) → FailsToOpenDevice asked told old now → LeavesOthers asked old now → now.handed ≡ old.handed
-      → RunsScripts style moment source_state sink_state old now told [] [] 0 asked scripts pages limit None
-  runs_nothing told fails others handed = record {
+module _ {D S K : Type 0} (style : Style) (moment : D → Moment) (source_state : S → SourceState) (sink_state : K → SinkState) (old now : ShelfState) (asked : Word)
+    (scripts backups : List Word) (pages limit : ℕ) where
+  -- without a device this alone is told
+  pub unrun_alone : (told : Notice) → TellsUnrun told asked scripts backups None old now → LeavesOthers asked old now → now.handed ≡ old.handed
+      → RunsScripts style moment source_state sink_state old now told [] [] None 0 asked scripts backups pages limit None
+  unrun_alone told tells others handed = record {
     opened = inl refl;
+    backup_opened = tt;
+    backed_up = λ ran. absurd (ran (refl, refl));
     is_asked = tt;
-    others = leaves_asked asked (stream_names scripts) old now now others (leaves_same (stream_names scripts) now);
+    others = leaves_asked asked (stream_names scripts ++ backups) old now now others (leaves_same (stream_names scripts ++ backups) now);
     handed = record { replies = 0; handed = λ fits. omega (arith, handed); most = omega arith; reported = inl refl };
     in_order = record { none = λ is fits. omega (arith, handed); all = tt };
     first = λ is. tt;
@@ -474,17 +539,29 @@ module _ {D S K : Type 0} (style : Style) (moment : D → Moment) (source_state 
     unwritten = λ is. tt;
     untouched = λ is. tt;
     none = λ is. (refl, inl refl, tells);
-    told = λ ran. absurd (ran refl);
-    one = λ ran. absurd (ran refl);
-    complete = complete_from style moment source_state sink_state old now told [] [] 0 asked scripts pages limit None (λ is. (refl, inl refl, tells))
-        (λ ran. absurd (ran refl)) (λ ran. absurd (ran refl));
+    told = λ ran. absurd (ran (refl, refl));
+    one = λ ran. absurd (ran (refl, refl));
+    complete = complete_from style moment source_state sink_state old now told [] [] None 0 asked scripts backups pages limit None (λ is. (refl, inl refl, tells))
+        (λ ran. absurd (ran (refl, refl))) (λ ran. absurd (ran (refl, refl)));
   }
+
+  -- the device was not opened
+  pub runs_nothing : (told : Notice) → FailsToOpenDevice asked told old now → LeavesOthers asked old now → now.handed ≡ old.handed
+      → RunsScripts style moment source_state sink_state old now told [] [] None 0 asked scripts backups pages limit None
+  runs_nothing told fails others handed = unrun_alone told tells others handed
     where
-      tells : TellsUnrun told asked scripts None old now
+      tells : TellsUnrun told asked scripts backups None old now
       tells = elim fails [
-        | inl want ↦ subst (λ (n : Notice). TellsUnrun n asked scripts None old now) (sym want.0) tt
-        | inr fault ↦ subst (λ (n : Notice). TellsUnrun n asked scripts None old now) (sym fault.0) (inr (refl, fault.1, fault.2))
+        | inl want ↦ subst (λ (n : Notice). TellsUnrun n asked scripts backups None old now) (sym want.0) tt
+        | inr fault ↦ subst (λ (n : Notice). TellsUnrun n asked scripts backups None old now) (sym fault.0) (inr (refl, fault.1, fault.2))
       ]
+
+-- memory was short before anything was asked for
+pub nothing_asked : {D S K : Type 0} (style : Style) (moment : D → Moment) (source_state : S → SourceState) (sink_state : K → SinkState) (old : ShelfState) (asked : Word)
+    (scripts backups : List Word) (pages limit : ℕ) → RunsScripts style moment source_state sink_state old old notices.Memory [] [] None 0 asked scripts backups pages limit None
+nothing_asked style moment source_state sink_state old asked scripts backups pages limit =
+    unrun_alone style moment source_state sink_state old old asked scripts backups pages limit notices.Memory tt
+    (record { scripts = λ n apart. refl; replies = λ n apart. refl; devices = λ n apart. refl; later = omega arith; wants_later = omega arith }) refl
 
 -- where memory was short, nothing more need be told
 pub fails_or_memory : {X Memory Fails : Type 0} → (Memory × X) ⊎ Fails → Memory ⊎ Fails

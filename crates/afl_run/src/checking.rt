@@ -1,5 +1,6 @@
 //! The file of a device is checked, and what it holds is told on the standard output.
-ghost use Rattle.std.specs.Prelude.{◌≡◌, [], IfOk, None};
+ghost use Rattle.std.specs.Prelude.{◌≡◌, ◌≢◌, [], IfOk, None};
+ghost use Rattle.run_opening.specs.Names.{standard};
 ghost use Rattle.run_opening.specs.Notice.{status_of};
 ghost use Rattle.afl_run.specs.Checks.{Checks, sound_line};
 
@@ -21,7 +22,7 @@ pub(crate) fn run_check<F: Shelf>(alloc: Global, name: &str, shelf: F) -> Report
     ensures restored { result.restored ≡ None }
     ensures history { result.history ≡ [] }
     ensures free_pages { result.free_pages ≡ 0 }
-    ensures checks { Checks F.Device.moment F.K.state (F.state shelf) (F.state result.shelf) result.notice name.now result.disk result.checked }
+    ensures checks { name.now ≢ standard → Checks F.Device.moment F.K.state (F.state shelf) (F.state result.shelf) result.notice name.now result.disk result.checked }
 {
     let mut shelf = shelf;
     match open_device(&mut shelf, name) {

@@ -1,5 +1,5 @@
 //! A backup of a device goes to the standard output.
-ghost use Rattle.std.specs.Prelude.{◌≡◌, ◌∷◌, [], None};
+ghost use Rattle.std.specs.Prelude.{◌≡◌, ◌≢◌, ◌∷◌, [], None};
 ghost use Rattle.run_opening.specs.Names.{standard};
 ghost use Rattle.run_opening.specs.Notice.{status_of};
 ghost use Rattle.afl_run.specs.Run.{plain, RunsScripts};
@@ -28,22 +28,47 @@ pub(crate) fn run_dump<F: Shelf, R: Threads + Wait + Sync, G: Gate>(
     ensures generated { result.generated ≡ None }
     ensures restored { result.restored ≡ None }
     ensures checked { result.checked ≡ None }
-    ensures dumps { RunsScripts plain F.Device.moment F.S.state F.K.state (F.state shelf) (F.state result.shelf) result.notice result.history
+    ensures dumps { device.now ≢ standard
+        → RunsScripts plain F.Device.moment F.S.state F.K.state (F.state shelf) (F.state result.shelf) result.notice result.history
         result.sessions result.backup result.free_pages device.now [] (standard ∷ []) limits.pages limits.history result.disk }
 {
     match standard_name(alloc) {
-        Ok(name) => {
-            let backups = [name];
-            let names = Names {
-                scripts: &backups[..0],
-                backups: &backups,
-            };
-            let settings = Settings {
-                limits,
-                options: OPTIONS,
-            };
-            run_scripts(rt, alloc, device, names, settings, shelf, gate)
-        }
+        Ok(name) => dump_to(rt, alloc, device, &[name], limits, shelf, gate),
         Err(Memory) => unrun(alloc, Notice::Memory, None, shelf),
     }
+}
+
+/// The same, to the reply of this one name.
+fn dump_to<F: Shelf, R: Threads + Wait + Sync, G: Gate>(
+    rt: &R,
+    alloc: Global,
+    device: &Arg,
+    backups: &[Arg],
+    limits: Limits,
+    shelf: F,
+    gate: &G,
+) -> Report<F>
+    requires name { backups.now ≡ standard ∷ [] }
+    ensures status { result.status ≡ status_of result.notice }
+    ensures generated { result.generated ≡ None }
+    ensures restored { result.restored ≡ None }
+    ensures checked { result.checked ≡ None }
+    ensures dumps { device.now ≢ standard
+        → RunsScripts plain F.Device.moment F.S.state F.K.state (F.state shelf) (F.state result.shelf) result.notice result.history
+        result.sessions result.backup result.free_pages device.now [] (standard ∷ []) limits.pages limits.history result.disk }
+{
+    let scripts = no_words(backups);
+    let names = Names { scripts, backups };
+    let settings = Settings {
+        limits,
+        options: OPTIONS,
+    };
+    run_scripts(rt, alloc, device, names, settings, shelf, gate)
+}
+
+/// None of these words.
+fn no_words(words: &[Arg]) -> &[Arg]
+    ensures { result.now ≡ [] }
+{
+    &words[..0]
 }

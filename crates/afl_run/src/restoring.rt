@@ -1,5 +1,6 @@
 //! A backup is restored from the standard input.
-ghost use Rattle.std.specs.Prelude.{◌≡◌, [], None};
+ghost use Rattle.std.specs.Prelude.{◌≡◌, ◌≢◌, [], None};
+ghost use Rattle.run_opening.specs.Names.{standard};
 ghost use Rattle.run_opening.specs.Notice.{status_of};
 ghost use Rattle.afl_run.specs.Restores.{Restores, restored_notice};
 
@@ -18,7 +19,7 @@ pub(crate) fn run_restore<F: Shelf>(alloc: Global, name: &str, pages: u32, shelf
     ensures checked { result.checked ≡ None }
     ensures history { result.history ≡ [] }
     ensures free_pages { result.free_pages ≡ 0 }
-    ensures restores { Restores F.Device.moment F.S.state (F.state shelf) (F.state result.shelf) result.notice name.now pages result.disk result.restored }
+    ensures restores { name.now ≢ standard → Restores F.Device.moment F.S.state (F.state shelf) (F.state result.shelf) result.notice name.now pages result.disk result.restored }
 {
     let mut shelf = shelf;
     match open_device(&mut shelf, name) {

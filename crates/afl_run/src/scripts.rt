@@ -1,11 +1,12 @@
 //! Sessions and a backup over a device.
-ghost use Rattle.std.specs.Prelude.{◌≡◌, ◌≢◌, ◌+◌, ◌++◌, ◌≤◌, All, Some, length};
+ghost use Rattle.std.specs.Prelude.{◌≡◌, ◌≢◌, ◌⊎◌, ◌+◌, ◌++◌, ◌≤◌, ◌<◌, ◌^◌, All, IfErr, IfOk, None, OnErr, OnOk, Some, length};
 ghost use Rattle.page_chain.specs.Puts.{OnlySyncs};
 ghost use Rattle.run_opening.specs.Names.{HaveOwnNames, stream_names};
 ghost use Rattle.run_opening.specs.Notice.{status_of};
-ghost use Rattle.afl_run.specs.Run.{RunsScripts};
+ghost use Rattle.run_opening.specs.Opened.{AreOpenedFor, HandsOut, HandsOutSome, LeavesUnasked, StopsAt};
+ghost use Rattle.afl_run.specs.Run.{FailsToOpenBackup, RunsScripts};
 ghost use Rattle.afl_run.specs.Inner.Over.{HasSessions};
-ghost use Rattle.afl_run.specs.Inner.Streams.{IsAsBegun, RunsOn};
+ghost use Rattle.afl_run.specs.Inner.Streams.{FailsAtBackup, FailsToOpenInputs, IsAsBegun, IsSinkFor, RunsOn};
 
 use crate::over::{Inputs, Outcome, run_over};
 use crate::report::{Report, unrun};
@@ -47,13 +48,13 @@ pub(crate) fn run_scripts<F: Shelf, R: Threads + Wait + Sync, G: Gate>(
     requires count { HasSessions (length names.scripts.now + length names.backups.now) }
     requires few { length names.backups.now ≤ 1 }
     requires names { HaveOwnNames names.scripts.now }
-    requires apart { All (λ name. device.now ≢ name) (stream_names names.scripts.now ++ names.backups.now) }
     requires backup_apart { All (λ backup. All (λ name. backup ≢ name) (stream_names names.scripts.now)) names.backups.now }
     ensures status { result.status ≡ status_of result.notice }
     ensures generated { result.generated ≡ None }
     ensures restored { result.restored ≡ None }
     ensures checked { result.checked ≡ None }
-    ensures runs { RunsScripts settings.options.style F.Device.moment F.S.state F.K.state (F.state shelf) (F.state result.shelf) result.notice result.history
+    ensures runs { All (λ name. device.now ≢ name) (stream_names names.scripts.now ++ names.backups.now)
+        → RunsScripts settings.options.style F.Device.moment F.S.state F.K.state (F.state shelf) (F.state result.shelf) result.notice result.history
         result.sessions result.backup result.free_pages device.now names.scripts.now names.backups.now settings.limits.pages settings.limits.history result.disk }
 {
     let mut shelf = shelf;
@@ -105,20 +106,46 @@ fn open_inputs<F: Shelf>(
     alloc: Global,
     names: Names<'_>,
     shelf: &mut F,
-) -> Result<Inputs<F::S, F::K>, Notice> {
-    let streams = open_streams(alloc, names.scripts, shelf)?;
-    let backup = open_backup(names, shelf)?;
-    Ok(Inputs { streams, backup })
+) -> Result<Inputs<F::S, F::K>, Notice>
+    requires short { length names.scripts.now < 2 ^ 32 }
+    requires few { length names.backups.now ≤ 1 }
+    requires names { HaveOwnNames names.scripts.now }
+    requires backup_apart { All (λ backup. All (λ name. backup ≢ name) (stream_names names.scripts.now)) names.backups.now }
+    ensures opened { IfOk result (λ inputs. AreOpenedFor F.S.state F.K.state (F.state shelf.old) names.scripts.now inputs.streams) }
+    ensures backup { IfOk result (λ inputs. IsSinkFor F.K.state (F.state shelf.old) names.backups.now inputs.backup) }
+    ensures cause { IfErr result (λ notice. FailsToOpenInputs names.scripts.now names.backups.now notice (F.state shelf.old) (F.state shelf.new)) }
+    ensures first { IfErr result (λ notice. StopsAt F.S.state F.K.state names.scripts.now (F.state shelf.old) (F.state shelf.new) notice
+        ⊎ FailsToOpenBackup names.scripts.now names.backups.now (length names.scripts.now) (F.state shelf.old) (F.state shelf.new)) }
+    ensures others { LeavesUnasked (stream_names names.scripts.now ++ names.backups.now) (F.state shelf.old) (F.state shelf.new) }
+    ensures handed { OnOk result (HandsOut (length names.scripts.now + length names.backups.now) (F.state shelf.old) (F.state shelf.new)) }
+    ensures some { OnErr result (HandsOutSome (length names.scripts.now + length names.backups.now) (F.state shelf.old) (F.state shelf.new)) }
+{
+    match open_streams(alloc, names.scripts, shelf) {
+        Ok(streams) => match open_backup(names, shelf) {
+            Ok(backup) => Ok(Inputs { streams, backup }),
+            Err(notice) => Err(notice),
+        },
+        Err(notice) => Err(notice),
+    }
 }
 
 /// Opens the reply of the backup, where one is asked for: its number is the one behind the scripts.
-fn open_backup<F: Shelf>(names: Names<'_>, shelf: &mut F) -> Result<Option<F::K>, Notice> {
-    match names.backups {
-        [] => Ok(None),
-        [name, ..] => {
-            let sink = open_reply(shelf, names.scripts.len() as u32, name.as_str())?;
-            Ok(Some(sink))
-        }
+fn open_backup<F: Shelf>(names: Names<'_>, shelf: &mut F) -> Result<Option<F::K>, Notice>
+    requires short { length names.scripts.now < 2 ^ 32 }
+    requires few { length names.backups.now ≤ 1 }
+    ensures opened { IfOk result (IsSinkFor F.K.state (F.state shelf.old) names.backups.now) }
+    ensures cause { IfErr result (λ notice. FailsAtBackup names.scripts.now names.backups.now notice (F.state shelf.old) (F.state shelf.new)) }
+    ensures others { LeavesUnasked names.backups.now (F.state shelf.old) (F.state shelf.new) }
+    ensures handed { OnOk result (HandsOut (length names.backups.now) (F.state shelf.old) (F.state shelf.new)) }
+    ensures unhanded { OnErr result ((F.state shelf.new).handed ≡ (F.state shelf.old).handed) }
+{
+    if names.backups.is_empty() {
+        return Ok(None);
+    }
+    let name = &names.backups[0];
+    match open_reply(shelf, names.scripts.len() as u32, name.as_str()) {
+        Ok(sink) => Ok(Some(sink)),
+        Err(notice) => Err(notice),
     }
 }
 

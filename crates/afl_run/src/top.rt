@@ -1,5 +1,5 @@
 //! The top call.
-ghost use Rattle.std.specs.Prelude.{◌≡◌, ◌<◌, ◌↔◌, ℕ, [], ◌∷◌, Option, None, Some, IfSome, codes, drop, length, slice_get};
+ghost use Rattle.std.specs.Prelude.{◌≡◌, ◌≢◌, ◌<◌, ◌↔◌, ℕ, [], ◌∷◌, Option, None, Some, IfSome, codes, drop, length, slice_get};
 ghost use Rattle.command_words.specs.Faults.{IsFault};
 ghost use Rattle.command_words.specs.Forms.{backup_names, IsCheck, IsDump, IsGenerate, IsInit, IsRestore, IsRun};
 ghost use Rattle.command_words.specs.Laws.{IsNamedAt};
@@ -8,6 +8,7 @@ ghost use Rattle.afl_run.specs.Checks.{Checks};
 ghost use Rattle.afl_run.specs.Restores.{Restores};
 ghost use Rattle.afl_run.specs.Forms.{IsOfNoBackup};
 ghost use Rattle.command_words.specs.declared.words.forms.Printing.{Printing};
+ghost use Rattle.run_opening.specs.Names.{standard};
 ghost use Rattle.run_opening.specs.Notice.{status_of};
 ghost use Rattle.afl_outside.specs.InMemory.{sure_source_state};
 ghost use Rattle.afl_outside.specs.Inner.Records.{sure_disk_moment};
@@ -15,13 +16,13 @@ ghost use Rattle.command_words.specs.Script.{script};
 ghost use Rattle.afl_run.specs.Generate.{RunsGenerate};
 ghost use Rattle.afl_run.specs.Run.{plain, MakesDatabase, RunsScripts, RunsTry};
 
+use crate::checking::run_check;
 use crate::database::run_init;
+use crate::dumping::run_dump;
 use crate::generated::run_generate;
 use crate::report::{Report, unrun};
-use crate::checking::run_check;
 use crate::restoring::run_restore;
 use crate::scripts::{Names, Settings, run_scripts};
-use crate::dumping::run_dump;
 use crate::standard::run_try;
 use afl_outside::{Gate, Shelf};
 use command_words::{Arg, Form, Printing, form_of};
@@ -33,7 +34,9 @@ use std::thread::Threads;
 
 /// Runs what the words say. `run` answers scripts over the database of a device, each in a session of its own; `try` answers the standard input
 /// on the standard output, over an empty database in memory; `init` makes a device, which must be empty, a database with no array;
-/// `generate` answers the script that is made for a number as `try` does.
+/// `generate` answers the script that is made for a number as `try` does; `dump` writes the backup of a device to the standard output, and `run` may write
+/// one beside its scripts; `restore` makes a device, which must be empty, the database of which the standard input gives the backup; `check` reads all of
+/// a device's file, and tells whether it is sound.
 pub fn run<F: Shelf, R: Threads + Wait + Sync, G: Gate>(
     rt: &R,
     alloc: Global,
@@ -54,13 +57,14 @@ pub fn run<F: Shelf, R: Threads + Wait + Sync, G: Gate>(
         → RunsScripts (record { csv = printing.csv; trace = printing.trace }) F.Device.moment F.S.state F.K.state
         (F.state shelf) (F.state result.shelf) result.notice result.history result.sessions result.backup
         result.free_pages run.device run.scripts (backup_names run.settings) pages history result.disk }
-    ensures dumps { (pages history : ℕ) (dump : IsDump words.now pages history)
+    // A device of the name of the standard streams apart.
+    ensures dumps { (pages history : ℕ) (dump : IsDump words.now pages history) → dump.has.device ≢ standard
         → RunsScripts plain F.Device.moment F.S.state F.K.state
         (F.state shelf) (F.state result.shelf) result.notice result.history result.sessions result.backup
-        result.free_pages dump.has.device [] (codes "-" ∷ []) pages history result.disk }
-    ensures restores { (pages : ℕ) (restore : IsRestore words.now pages)
+        result.free_pages dump.has.device [] (standard ∷ []) pages history result.disk }
+    ensures restores { (pages : ℕ) (restore : IsRestore words.now pages) → restore.has.device ≢ standard
         → Restores F.Device.moment F.S.state (F.state shelf) (F.state result.shelf) result.notice restore.has.device pages result.disk result.restored }
-    ensures checks { (check : IsCheck words.now)
+    ensures checks { (check : IsCheck words.now) → check.device ≢ standard
         → Checks F.Device.moment F.K.state (F.state shelf) (F.state result.shelf) result.notice check.device result.disk result.checked }
     ensures tries { words.now ≡ codes "try" ∷ []
         → RunsTry sure_disk_moment F.S.state F.K.state (F.state shelf) (F.state result.shelf) result.notice result.history result.sessions result.free_pages }
@@ -100,9 +104,11 @@ pub fn run<F: Shelf, R: Threads + Wait + Sync, G: Gate>(
             let style = Style { csv, trace };
             let options = Options { workers, style };
             let target = word_at(words, device);
+            let listed = words_from(words, scripts);
+            let backups = word_if(words, dump);
             let names = Names {
-                scripts: words_from(words, scripts),
-                backups: word_if(words, dump),
+                scripts: listed,
+                backups,
             };
             let settings = Settings { limits, options };
             run_scripts(rt, alloc, target, names, settings, shelf, gate)

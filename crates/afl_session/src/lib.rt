@@ -4,5 +4,5 @@
 mod scripts;
 
 pub use run_opening::SessionReport;
-pub use scripts::{marks_stay, serve};
+pub use scripts::{Stopped, marks_stay, serve, write_whole};
 pub use session_answers::{Options, Reply, Style, answer};

@@ -7,3 +7,4 @@ mod streams;
 
 pub use laws::marks_stay;
 pub use session::serve;
+pub use streams::{Stopped, write_whole};

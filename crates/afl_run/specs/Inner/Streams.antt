@@ -1,5 +1,5 @@
 -- What a run did once its device was opened.
-use Rattle.std.specs.Prelude.{◌≡◌, ◌⊎◌, ℕ, ◌+◌, List, [], ◌++◌, length, All, Option, IfSome, IsSomeAnd}
+use Rattle.std.specs.Prelude.{◌≡◌, ◌⊎◌, ℕ, ◌+◌, List, [], ◌∷◌, ◌++◌, length, All, Option, None, Some, IfSome, IsSomeAnd}
 use Rattle.afl_outside.specs.Disk.{DiskGoesOn, DiskState, Moment}
 use Rattle.afl_outside.specs.Source.{SourceState}
 use Rattle.afl_outside.specs.Sink.{SinkState}
@@ -8,9 +8,10 @@ use Rattle.event_core.specs.declared.entry.Entry.{Entry}
 use Rattle.page_chain.specs.Puts.{OnlySyncs}
 use Rattle.store_state.specs.Standings.{Standing}
 use Rattle.run_opening.specs.Names.{Word, stream_names}
-use Rattle.run_opening.specs.Opened.{HandsOut, LeavesUnasked, StopsAt}
+use Rattle.run_opening.specs.Opened.{FailsToOpen, HandsOut, IsSinkOf, LeavesUnasked, StopsAt}
 use Rattle.run_opening.specs.declared.reports.reports.SessionReport.{SessionReport}
 use Rattle.run_opening.specs.declared.reports.notices.Notice.{Notice}
+use Rattle.run_opening.specs.declared.reports.notices.Notice.TheVariants as notices
 use Rattle.session_threads.specs.Style.{Style}
 use Rattle.afl_run.specs.OneHistory.{IsOneHistory}
 use Rattle.afl_run.specs.Backups.{IsBackupOpenedAs}
@@ -22,6 +23,22 @@ use Rattle.afl_run.specs.Run.{AreOfScripts, BeganFrom, CountsPages, FailsToOpenB
 pub record IsAsBegun (disk : DiskState) : Type 0 where
   pub seen : disk.seen ≡ disk.first
   pub faults : disk.faults ≡ 0
+
+-- the sink of a backup was opened under the name that is asked for, where there is one
+abbrev pub IsSinkFor : {K : Type 0} → (K → SinkState) → ShelfState → List Word → Option K → Type 0
+IsSinkFor sink_state shelf [] None = Unit {0}
+IsSinkFor sink_state shelf [] (Some sink) = ⊥
+IsSinkFor sink_state shelf (name ∷ names) None = ⊥
+IsSinkFor sink_state shelf (name ∷ names) (Some sink) = IsSinkOf shelf name (sink_state sink)
+
+-- the shelf found no memory, or the reply of the backup was not opened
+abbrev pub FailsAtBackup : List Word → List Word → Notice → ShelfState → ShelfState → Type 0
+FailsAtBackup scripts backups notice old new = (notice ≡ notices.Memory)
+    ⊎ ((notice ≡ notices.Stream (length scripts)) × FailsToOpenBackup scripts backups (length scripts) old new)
+
+-- nor was a stream of some script
+abbrev pub FailsToOpenInputs : List Word → List Word → Notice → ShelfState → ShelfState → Type 0
+FailsToOpenInputs scripts backups notice old new = FailsAtBackup scripts backups notice old new ⊎ FailsToOpen scripts notice old new
 
 -- this is the disk, some calls later
 abbrev pub GoesOn : {D : Type 0} → (D → Moment) → D → Option D → Type 0

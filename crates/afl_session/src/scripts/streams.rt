@@ -5,17 +5,17 @@ ghost use Rattle.afl_outside.specs.Sink.{Takes};
 
 use afl_outside::{Failed, Sink, has_risen};
 
-/// Why a session goes no further.
+/// Why a text was not written whole.
 #[derive(Clone, Copy)]
-pub(crate) enum Stopped {
-    /// Its sink failed.
+pub enum Stopped {
+    /// The sink failed.
     Fault,
     /// No memory was found.
     Memory,
 }
 
 /// Writes all of a text.
-pub(crate) fn write_whole<K: Sink>(sink: &mut K, text: &[u8]) -> Result<(), Stopped>
+pub fn write_whole<K: Sink>(sink: &mut K, text: &[u8]) -> Result<(), Stopped>
     ensures ok { OnOk result (Takes (K.state sink.old) (K.state sink.new) text.now) }
     ensures err { OnErr result ((n : ℕ) × Takes (K.state sink.old) (K.state sink.new) (take n text.now)) }
     ensures fault { IsErrOf result Stopped.Fault → Rose (K.state sink.old).faults (K.state sink.new).faults }
