@@ -34,6 +34,8 @@ use Rattle.session_threads.specs.Style.{Style}
 use Rattle.afl_run.specs.Backups.{ended}
 use Rattle.afl_run.specs.Generate.{RunsGenerate}
 use Rattle.afl_run.specs.Init.{TellsDevice}
+use Rattle.afl_run.specs.Inner.Streams.{RunsOn}
+use Rattle.run_opening.specs.Opened.{FailsToOpenDevice}
 use Rattle.afl_run.specs.Checks.{Checks}
 use Rattle.afl_run.specs.Restores.{Restores}
 use Rattle.afl_run.specs.Run.{plain, MakesDatabase, RunsScripts, RunsTry, TellsUnrun, state_in}
@@ -387,3 +389,24 @@ pub checks_as : (words : List Word) (device : ℕ) (one : IsForm words (Check de
 checks_as words device one check moment sink_state old new notice disk reply name is apart checks =
     let same = same_alone (codes "check") words one.1 device one.0 check name is in
     subst (λ (w : Word). Checks moment sink_state old new notice w disk reply) same (checks (λ this. apart (sym same ∙ this)))
+
+-- ---- usage is no notice of a device
+
+pub on_tells : {D S K : Type 0} (style : Style) (moment : D → Moment) (source_state : S → SourceState) (sink_state : K → SinkState) (old new : ShelfState) (notice : Notice)
+    (history : List Entry) (sessions : List (SessionReport S K)) (backup : Option (BackupReport K)) (free : ℕ) (disk : D) (scripts backups : List Word) (pages limit : ℕ)
+    (device : Option D) → RunsOn style moment source_state sink_state old new notice history sessions backup free disk scripts backups pages limit device
+    → (word : ℕ) → notice ≡ notices.Usage word → ⊥
+on_tells style moment source_state sink_state old new notice history sessions backup free disk scripts backups pages limit device on word is = elim (has_report sessions backup) [
+  | inl none ↦ subst (λ (n : Notice). TellsUnrun n [] scripts backups (state_in moment device) old new) is ((on.none none).2 [])
+  | inr ran ↦ sessions_tell notice sessions (ended backup) word (on.told ran) is
+]
+
+pub device_tells : (asked : Word) (told notice : Notice) (old new : ShelfState) → FailsToOpenDevice asked told old new → notice ≡ told
+    → (word : ℕ) → notice ≡ notices.Usage word → ⊥
+device_tells asked told notice old new fails same word is = elim fails [
+  | inl want ↦ let memory = want.0 in absurd (cc (memory, same, is))
+  | inr fault ↦ let disk = fault.0 in absurd (cc (disk, same, is))
+]
+
+pub memory_tells : (notice : Notice) → notice ≡ notices.Memory → (word : ℕ) → notice ≡ notices.Usage word → ⊥
+memory_tells notice memory word is = absurd (cc (memory, is))

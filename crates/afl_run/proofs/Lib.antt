@@ -7,5 +7,6 @@ pub mod InputLemmas
 pub mod MakingLemmas
 pub mod OverLemmas
 pub mod Reporting
+pub mod RestoringLemmas
 pub mod StandardLemmas
 pub mod StreamsLemmas

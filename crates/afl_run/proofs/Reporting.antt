@@ -16,7 +16,7 @@ use Rattle.run_opening.specs.declared.reports.reports.SessionEnd.{SessionEnd}
 use Rattle.afl_run.specs.Printed.{IsOpenedAs, Prints}
 
 -- a source that told its first bytes has left what it did not give
-given_and_left : (l f e : Option (List ℕ)) (bytes : List ℕ) → l ≡ f → Consumes l e bytes → IfSome f (λ script. (left : List ℕ) × (e ≡ Some left) × (script ≡ bytes ++ left))
+pub given_and_left : (l f e : Option (List ℕ)) (bytes : List ℕ) → l ≡ f → Consumes l e bytes → IfSome f (λ script. (left : List ℕ) × (e ≡ Some left) × (script ≡ bytes ++ left))
 given_and_left l None e bytes is c = tt
 given_and_left l (Some xs) None bytes is c = absurd (subst (λ (o : Option (List ℕ)). Consumes o None bytes) is c)
 given_and_left l (Some xs) (Some ys) bytes is c = (ys, refl, subst (λ (o : Option (List ℕ)). Consumes o (Some ys) bytes) is c)

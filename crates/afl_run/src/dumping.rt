@@ -1,5 +1,5 @@
 //! A backup of a device goes to the standard output.
-ghost use Rattle.std.specs.Prelude.{◌≡◌, ◌≢◌, ◌∷◌, [], None};
+ghost use Rattle.std.specs.Prelude.{◌≡◌, ◌≢◌, ◌∷◌, ℕ, [], None};
 ghost use Rattle.run_opening.specs.Names.{standard};
 ghost use Rattle.run_opening.specs.Notice.{status_of};
 ghost use Rattle.afl_run.specs.Run.{plain, RunsScripts};
@@ -28,6 +28,7 @@ pub(crate) fn run_dump<F: Shelf, R: Threads + Wait + Sync, G: Gate>(
     ensures generated { result.generated ≡ None }
     ensures restored { result.restored ≡ None }
     ensures checked { result.checked ≡ None }
+    ensures no_usage { (word : ℕ) → result.notice ≡ Notice.Usage word → ⊥ }
     ensures dumps { device.now ≢ standard
         → RunsScripts plain F.Device.moment F.S.state F.K.state (F.state shelf) (F.state result.shelf) result.notice result.history
         result.sessions result.backup result.free_pages device.now [] (standard ∷ []) limits.pages limits.history result.disk }
@@ -53,6 +54,7 @@ fn dump_to<F: Shelf, R: Threads + Wait + Sync, G: Gate>(
     ensures generated { result.generated ≡ None }
     ensures restored { result.restored ≡ None }
     ensures checked { result.checked ≡ None }
+    ensures no_usage { (word : ℕ) → result.notice ≡ Notice.Usage word → ⊥ }
     ensures dumps { device.now ≢ standard
         → RunsScripts plain F.Device.moment F.S.state F.K.state (F.state shelf) (F.state result.shelf) result.notice result.history
         result.sessions result.backup result.free_pages device.now [] (standard ∷ []) limits.pages limits.history result.disk }

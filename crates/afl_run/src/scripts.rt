@@ -1,5 +1,5 @@
 //! Sessions and a backup over a device.
-ghost use Rattle.std.specs.Prelude.{◌≡◌, ◌≢◌, ◌⊎◌, ◌+◌, ◌++◌, ◌≤◌, ◌<◌, ◌^◌, All, IfErr, IfOk, None, OnErr, OnOk, Some, length};
+ghost use Rattle.std.specs.Prelude.{◌≡◌, ◌≢◌, ◌⊎◌, ℕ, ◌+◌, ◌++◌, ◌≤◌, ◌<◌, ◌^◌, All, IfErr, IfOk, None, OnErr, OnOk, Some, length};
 ghost use Rattle.page_chain.specs.Puts.{OnlySyncs};
 ghost use Rattle.run_opening.specs.Names.{HaveOwnNames, stream_names};
 ghost use Rattle.run_opening.specs.Notice.{status_of};
@@ -53,6 +53,7 @@ pub(crate) fn run_scripts<F: Shelf, R: Threads + Wait + Sync, G: Gate>(
     ensures generated { result.generated ≡ None }
     ensures restored { result.restored ≡ None }
     ensures checked { result.checked ≡ None }
+    ensures no_usage { (word : ℕ) → result.notice ≡ Notice.Usage word → ⊥ }
     ensures runs { All (λ name. device.now ≢ name) (stream_names names.scripts.now ++ names.backups.now)
         → RunsScripts settings.options.style F.Device.moment F.S.state F.K.state (F.state shelf) (F.state result.shelf) result.notice result.history
         result.sessions result.backup result.free_pages device.now names.scripts.now names.backups.now settings.limits.pages settings.limits.history result.disk }

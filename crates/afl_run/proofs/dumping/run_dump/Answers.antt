@@ -7,6 +7,7 @@ use Rattle.run_opening.specs.declared.reports.notices.Notice.TheVariants as noti
 use Rattle.run_opening.specs.declared.reports.reports.BackupReport.{BackupReport}
 use Rattle.run_opening.specs.declared.reports.reports.SessionReport.{SessionReport}
 use Rattle.afl_run.specs.Run.{plain, RunsScripts}
+use Rattle.afl_run.proofs.FormLemmas.{memory_tells}
 use Rattle.afl_run.proofs.StreamsLemmas.{nothing_asked, reported}
 use Rattle.afl_run.proofs.dumping.run_dump.Goals as goal
 
@@ -30,3 +31,6 @@ returns-in-Err-clause-dumps g c = λ apart.
     r.shelf c.args.shelf r.notice notices.Memory r.history _ r.sessions _ r.free_pages _ r.disk _
     e.shelf e.notice e.history e.sessions e.free_pages e.disk
     (nothing_asked plain moment source sink old device [] (standard ∷ []) limits.pages limits.history))
+
+pub returns-in-Err-clause-no_usage : goal.returns-in-Err-clause-no_usage
+returns-in-Err-clause-no_usage g c = memory_tells c.unrun.result.notice c.unrun.ensures.notice

@@ -6,6 +6,7 @@ use Rattle.run_opening.specs.declared.reports.notices.Notice.{Notice}
 use Rattle.run_opening.specs.declared.reports.reports.BackupReport.{BackupReport}
 use Rattle.run_opening.specs.declared.reports.reports.SessionReport.{SessionReport}
 use Rattle.afl_run.specs.Run.{RunsScripts}
+use Rattle.afl_run.proofs.FormLemmas.{device_tells, on_tells}
 use Rattle.afl_run.proofs.StreamsLemmas.{reported, runs_nothing, runs_scripts}
 use Rattle.afl_run.proofs.scripts.run_scripts.Goals as goal
 
@@ -55,3 +56,11 @@ returns-in-Err-clause-runs g c = λ apart.
     e.shelf e.notice e.history e.sessions e.free_pages e.disk
     (subst (λ (asked : Word). RunsScripts style moment source sink old mid c.in-Err.notice [] [] None 0 asked scripts backups limits.pages limits.history None) c.as_str.ensures
     (runs_nothing style moment source sink old mid c.as_str.result.now scripts backups limits.pages limits.history c.in-Err.notice s.cause s.others s.handed)))
+
+pub returns-in-Ok-clause-no_usage : goal.returns-in-Ok-clause-no_usage
+returns-in-Ok-clause-no_usage g c =
+    let r = c.run_on.result in
+    on_tells _ g.F.Device.Disk.moment g.F.S.Source.state g.F.K.Sink.state _ _ r.notice r.history r.sessions r.backup r.free_pages c.in-Ok.disk _ _ _ _ r.disk c.run_on.ensures.runs
+
+pub returns-in-Err-clause-no_usage : goal.returns-in-Err-clause-no_usage
+returns-in-Err-clause-no_usage g c = device_tells _ c.in-Err.notice c.unrun.result.notice _ _ c.in-Err.ensures.cause c.unrun.ensures.notice
