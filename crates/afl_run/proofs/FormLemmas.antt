@@ -35,7 +35,7 @@ use Rattle.afl_run.specs.Backups.{ended}
 use Rattle.afl_run.specs.Generate.{RunsGenerate}
 use Rattle.afl_run.specs.Init.{TellsDevice}
 use Rattle.afl_run.specs.Inner.Streams.{RunsOn}
-use Rattle.run_opening.specs.Opened.{FailsToOpenDevice}
+use Rattle.run_opening.specs.Opened.{FailsFor, FailsToOpenDevice}
 use Rattle.afl_run.specs.Checks.{Checks}
 use Rattle.afl_run.specs.Restores.{Restores}
 use Rattle.afl_run.specs.Run.{plain, MakesDatabase, RunsScripts, RunsTry, TellsUnrun, state_in}
@@ -410,3 +410,10 @@ device_tells asked told notice old new fails same word is = elim fails [
 
 pub memory_tells : (notice : Notice) → notice ≡ notices.Memory → (word : ℕ) → notice ≡ notices.Usage word → ⊥
 memory_tells notice memory word is = absurd (cc (memory, is))
+
+pub stream_tells : (name : Option Word) (told notice : Notice) (old new : ShelfState) → FailsFor 0 name told old new → notice ≡ told
+    → (word : ℕ) → notice ≡ notices.Usage word → ⊥
+stream_tells name told notice old new fails same word is = elim fails [
+  | inl want ↦ let memory = want.0 in absurd (cc (memory, same, is))
+  | inr fault ↦ let stream = fault.0 in absurd (cc (stream, same, is))
+]

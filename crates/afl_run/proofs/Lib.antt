@@ -1,5 +1,6 @@
 pub mod BackupLemmas
 pub mod CauseLemmas
+pub mod CheckingLemmas
 pub mod CompleteLemmas
 pub mod FormLemmas
 pub mod GeneratedLemmas

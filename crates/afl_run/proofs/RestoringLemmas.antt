@@ -2,7 +2,7 @@
 use Rattle.std.proofs.Common.{◌≡◌, ◌≢◌, ◌⊎◌, ◌∙◌, ℕ, zero, List, [], ◌∷◌, ◌++◌, length, Option, Some, None, IfSome, IsSome, IsTrue, Bool, inl, inr, refl, sym, ap, subst, arith}
 use Rattle.std.specs.Prelude.{Result, Ok, Err, OnOk, IfErr}
 use Rattle.std.specs.Io.KnownBytes.{Consumes, IsAtEnd}
-use Rattle.std.proofs.lemmas.List.{append_nil}
+use Rattle.std.proofs.lemmas.List.{append-nil}
 use Rattle.afl_outside.specs.Counts.{Rose, risen}
 use Rattle.afl_outside.specs.Disk.{DiskGoesOn, IsNewDisk, Moment}
 use Rattle.afl_outside.specs.Source.{Gives, IsNewSource, SourceState}
@@ -91,7 +91,7 @@ module _ (pages : ℕ) (source read : SourceState) (new : IsNewSource standard s
   all_given : (bytes out : List ℕ) (left end : Option (List ℕ)) → left ≡ Some bytes → Consumes left end out → IsAtEnd end → bytes ≡ out
   all_given bytes out left None is consumes ends = absurd (subst (λ (o : Option (List ℕ)). Consumes o None out) is consumes)
   all_given bytes out left (Some rest) is consumes ends =
-      subst (λ (o : Option (List ℕ)). Consumes o (Some rest) out) is consumes ∙ ap (λ (l : List ℕ). out ++ l) ends ∙ append_nil out
+      subst (λ (o : Option (List ℕ)). Consumes o (Some rest) out) is consumes ∙ ap (λ (l : List ℕ). out ++ l) ends ∙ append-nil out
 
   holds : (bytes file : List ℕ) → read.first ≡ Some bytes → disk.state.seen ≡ Some file → notice ≡ notices.Done → IsTrue disk.state.honest → HoldsBackup read later
   holds bytes file is_first is_file done honest =
@@ -105,7 +105,7 @@ module _ (pages : ℕ) (source read : SourceState) (new : IsNewSource standard s
         image = restored.image;
       }
 
-each_some : {A : Type 0} (P : A → Type 0) (o : Option A) → ((x : A) → o ≡ Some x → P x) → IfSome o P
+pub each_some : {A : Type 0} (P : A → Type 0) (o : Option A) → ((x : A) → o ≡ Some x → P x) → IfSome o P
 each_some P None each = tt
 each_some P (Some x) each = each x refl
 
@@ -168,3 +168,38 @@ restores_nothing moment source_state asked pages old now notice fails others han
   made = λ done. tt;
   both = λ done. absurd (elim fails [ inl want ↦ cc (want.0, done) | inr fault ↦ cc (fault.0, done) ]);
 }
+
+-- no answer of restoring is usage
+no_usage : (answer : Result (Unit {0}) RestoreFault) (word : ℕ) → notices.Usage word ≡ restored_notice answer → ⊥
+no_usage (Ok u) word is = absurd (cc (is))
+no_usage (Err faults.Source) word is = absurd (cc (is))
+no_usage (Err faults.Disk) word is = absurd (cc (is))
+no_usage (Err (faults.NotEmpty count)) word is = absurd (cc (is))
+no_usage (Err (faults.NotBackup at)) word is = absurd (cc (is))
+no_usage (Err (faults.Full needed free)) word is = absurd (cc (is))
+no_usage (Err (faults.NotDatabase page)) word is = absurd (cc (is))
+no_usage (Err faults.Memory) word is = absurd (cc (is))
+
+-- a report that has the source and the device
+module _ {D S : Type 0} (moment : D → Moment) (source_state : S → SourceState) where
+  pub restored_tells : (pages : ℕ) (source : S) (disk : D) (notice : Notice) (device : Option D) (restored : Option S) → IsSome restored × IsSome device
+      → IfSome restored (λ read. IfSome device (λ now. IsRestoring pages (source_state source) (source_state read) (moment disk) (moment now) notice))
+      → (word : ℕ) → notice ≡ notices.Usage word → ⊥
+  restored_tells pages source disk notice device None both came word is = absurd (let some = both.0 in cc (some))
+  restored_tells pages source disk notice None (Some read) both came word is = absurd (let some = both.1 in cc (some))
+  restored_tells pages source disk notice (Some now) (Some read) both came word is = no_usage came.answer word (sym is ∙ came.told)
+
+  pub restores_any : {F : Type 0} (state : F → ShelfState) (asked : Word) (pages : ℕ) (old mid : ShelfState) (shelf after : F) (apart : asked ≢ standard)
+      (disk : D) (is_new : IsNewDisk asked (moment disk).state) (content : IfSome (old.devices asked) (λ bytes. (moment disk).state.first ≡ Some bytes))
+      (others : LeavesOthers asked old mid) (handed : mid.handed ≡ risen old.handed) (last : LeavesOthers standard mid (state shelf)) (same_handed : (state shelf).handed ≡ mid.handed)
+      (source : S) (fresh : IsNewSource standard (source_state source)) (told : IfSome (mid.scripts standard) (λ bytes. (source_state source).first ≡ Some bytes))
+      (notice : Notice) (device : Option D) (restored : Option S) (same : after ≡ shelf) → IsSome restored × IsSome device
+      → IfSome restored (λ read. IfSome device (λ now. IsRestoring pages (source_state source) (source_state read) (moment disk) (moment now) notice))
+      → Restores moment source_state old (state after) notice asked pages device restored
+  restores_any state asked pages old mid shelf after apart disk is_new content others handed last same_handed source fresh told notice device None same both came =
+      absurd (let some = both.0 in cc (some))
+  restores_any state asked pages old mid shelf after apart disk is_new content others handed last same_handed source fresh told notice None (Some read) same both came =
+      absurd (let some = both.1 in cc (some))
+  restores_any {F = F} state asked pages old mid shelf after apart disk is_new content others handed last same_handed source fresh told notice (Some now) (Some read) same both came =
+      subst (λ (s : F). Restores moment source_state old (state s) notice asked pages (Some now) (Some read)) (sym same)
+      (restores_came moment source_state asked pages old mid (state shelf) apart disk is_new content others handed last same_handed source read now notice fresh told came)
