@@ -120,17 +120,17 @@ pub fn run<F: Shelf, R: Threads + Wait + Sync, G: Gate>(
                 history,
             },
         ) => {
-            let target = word_at(words, device);
+            let dumped = word_at(words, device);
             let limits = Limits { pages, history };
-            run_dump(rt, alloc, target, limits, shelf, gate)
+            run_dump(rt, alloc, dumped, limits, shelf, gate)
         }
         Ok(Form::Restore { device, pages }) => {
-            let name = word_at(words, device);
-            run_restore(alloc, name.as_str(), pages, shelf)
+            let emptied = name_at(words, device);
+            run_restore(alloc, emptied, pages, shelf)
         }
         Ok(Form::Check { device }) => {
-            let name = word_at(words, device);
-            run_check(alloc, name.as_str(), shelf)
+            let examined = name_at(words, device);
+            run_check(alloc, examined, shelf)
         }
         Ok(Form::Generate { number, workers }) => {
             run_generate(rt, alloc, number, workers, shelf, gate)
@@ -144,6 +144,13 @@ fn word_at(words: &[Arg], place: usize) -> &Arg
     ensures { Some result.now ≡ slice_get words.now place }
 {
     &words[place]
+}
+
+fn name_at(words: &[Arg], place: usize) -> &str
+    requires { place < length words.now }
+    ensures { Some result.now ≡ slice_get words.now place }
+{
+    words[place].as_str()
 }
 
 fn words_from(words: &[Arg], place: usize) -> &[Arg]

@@ -20,6 +20,41 @@ use Rattle.afl_run.specs.Run.{plain, MakesDatabase, RunsScripts}
 use Rattle.afl_run.proofs.FormLemmas.{alone_within, apart_from_device, backup_named_apart, backup_within, checks_as, device_within, dumps_as, generated_tells, has_within, in_style, init_tells, names_apart, no_name, not_asked, one_backup, restores_as, runs_as, same_alone, same_dump_numbers, same_has, same_number, same_restore_pages, scripts_tell, scripts_within, some_sessions, try_tells, two_forms, usage_place, workers_within}
 use Rattle.afl_run.proofs.top.run.Goals as goal
 
+pub word_at-name-requires : goal.word_at-name-requires
+word_at-name-requires g c =
+    let words = c.args.words.now in
+    let form = c.in-Ok-Init in
+    let one : IsForm words (Init form.device) = (c.form_of.ensures.form (Init form.device)).0 (c.in-Ok-Init.is ∙ ap Ok c.in-Ok-Init.field-0-is) in
+    alone_within (codes "init") words one.1 form.device one.0
+
+pub word_at-target-requires : goal.word_at-target-requires
+word_at-target-requires g c =
+    let words = c.args.words.now in
+    let form = c.in-Ok-Run in
+    let one : IsForm words (Run form.device form.workers form.pages form.history form.printing form.dump form.scripts) = (c.form_of.ensures.form (Run form.device form.workers form.pages form.history form.printing form.dump form.scripts)).0 (c.in-Ok-Run.is ∙ ap Ok c.in-Ok-Run.field-0-is) in
+    device_within words form.device form.workers form.pages form.history form.printing form.dump form.scripts one
+
+pub word_at-dumped-requires : goal.word_at-dumped-requires
+word_at-dumped-requires g c =
+    let words = c.args.words.now in
+    let form = c.in-Ok-Dump in
+    let one : IsForm words (Dump form.device form.pages form.history) = (c.form_of.ensures.form (Dump form.device form.pages form.history)).0 (c.in-Ok-Dump.is ∙ ap Ok c.in-Ok-Dump.field-0-is) in
+    has_within verbs.Dump words one.1.has form.device one.0
+
+pub name_at-emptied-requires : goal.name_at-emptied-requires
+name_at-emptied-requires g c =
+    let words = c.args.words.now in
+    let form = c.in-Ok-Restore in
+    let one : IsForm words (Restore form.device form.pages) = (c.form_of.ensures.form (Restore form.device form.pages)).0 (c.in-Ok-Restore.is ∙ ap Ok c.in-Ok-Restore.field-0-is) in
+    has_within verbs.Restore words one.1.has form.device one.0
+
+pub name_at-examined-requires : goal.name_at-examined-requires
+name_at-examined-requires g c =
+    let words = c.args.words.now in
+    let form = c.in-Ok-Check in
+    let one : IsForm words (Check form.device) = (c.form_of.ensures.form (Check form.device)).0 (c.in-Ok-Check.is ∙ ap Ok c.in-Ok-Check.field-0-is) in
+    alone_within (codes "check") words one.1 form.device one.0
+
 pub words_from-listed-requires : goal.words_from-listed-requires
 words_from-listed-requires g c =
     let words = c.args.words.now in
@@ -113,7 +148,7 @@ returns-in-Ok-Init g c =
     let r = c.run_init.result in
     let e = c.run_init.ensures in
     let tells = init_tells moment old (state r.shelf) r.notice _ r.disk e.makes in
-    let named = ap Some c.as_str-in-Ok-Init.ensures ∙ c.word_at-in-Ok-Init-name.ensures in
+    let named = ap Some c.as_str.ensures ∙ c.word_at-name.ensures in
     record {
       status = e.status;
       usage = λ word. (λ is. absurd (tells word is), λ is. absurd (is.no_form (Init device) one));
@@ -192,7 +227,7 @@ returns-in-Ok-Dump g c =
       untouched = λ word is. absurd (tells word is);
       nothing = λ word is. absurd (tells word is);
       runs = λ workers pages history printing dump first run. absurd (two_forms words (Dump form.device form.pages form.history) (Run 1 workers pages history printing dump first) one (refl, run) (λ is. absurd (cc (is))));
-      dumps = λ pages history dump apart. dumps_as words form.device form.pages form.history one pages history dump moment source sink old (state r.shelf) r.notice r.history r.sessions r.backup r.free_pages r.disk _ c.word_at-in-Ok-Dump-target.ensures apart e.dumps;
+      dumps = λ pages history dump apart. dumps_as words form.device form.pages form.history one pages history dump moment source sink old (state r.shelf) r.notice r.history r.sessions r.backup r.free_pages r.disk _ c.word_at-dumped.ensures apart e.dumps;
       restores = λ pages restore apart. absurd (two_forms words (Dump form.device form.pages form.history) (Restore 1 pages) one (refl, restore) (λ is. absurd (cc (is))));
       checks = λ check apart. absurd (two_forms words (Dump form.device form.pages form.history) (Check 1) one (refl, check) (λ is. absurd (cc (is))));
       tries = λ try. absurd (two_forms words (Dump form.device form.pages form.history) Try one try (λ is. absurd (cc (is))));
@@ -218,7 +253,7 @@ returns-in-Ok-Restore g c =
     let r = c.run_restore.result in
     let e = c.run_restore.ensures in
     let tells : (word : ℕ) → r.notice ≡ Usage word → ⊥ = λ word is. e.no_usage word is in
-    let named = ap Some c.as_str-in-Ok-Restore.ensures ∙ c.word_at-in-Ok-Restore-name.ensures in
+    let named = c.name_at-emptied.ensures in
     record {
       status = e.status;
       usage = λ word. (λ is. absurd (tells word is), λ is. absurd (is.no_form (Restore form.device form.pages) one));
@@ -251,7 +286,7 @@ returns-in-Ok-Check g c =
     let r = c.run_check.result in
     let e = c.run_check.ensures in
     let tells : (word : ℕ) → r.notice ≡ Usage word → ⊥ = λ word is. e.no_usage word is in
-    let named = ap Some c.as_str-in-Ok-Check.ensures ∙ c.word_at-in-Ok-Check-name.ensures in
+    let named = c.name_at-examined.ensures in
     record {
       status = e.status;
       usage = λ word. (λ is. absurd (tells word is), λ is. absurd (is.no_form (Check form.device) one));
