@@ -4,7 +4,10 @@
 //! `init db` is run over; behind `fails: ` the number, from 0, of the call of an empty device that fails. A script behind `run: ` is run
 //! over a new database; one behind `workers: ` over one with one worker and over another one with eight, and both replies are told; one
 //! behind `csv: ` over a new database, where arrays are told as CSV, and one behind `trace: ` over one where it is told what was read.
+//! Behind `backup: ` stand a script whose database is backed up and restored, and behind ` | ` one that is run over what was restored;
+//! behind `altered: ` and `cut: ` a place at which the backup of a new database is changed or cut before it is restored.
 
+use crate::backups::push_backup;
 use crate::capped::CappedShelf;
 use crate::files::{device_of, streams_of};
 use crate::runs::{new_shelf, push_run};
@@ -48,6 +51,10 @@ pub(crate) fn push_command<R: AllocGlobal + Threads + Wait + Clock + Sync>(
     line: &str,
 ) {
     let (word, text) = line.split_once(':').unwrap_or((line, ""));
+    if matches!(word, "backup" | "altered" | "cut") {
+        push_backup(rt, out, word, text.trim_start());
+        return;
+    }
     let (line, is_script) = line_of(word, text);
     let text = text.trim_start();
     push_run(rt, out, line, files_of(rt, word, text), !is_script);

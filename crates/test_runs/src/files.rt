@@ -150,3 +150,13 @@ pub(crate) fn shelf_of(
 ) -> Result<CappedShelf, Memory> {
     failing_shelf(database, &[], names, texts)
 }
+
+/// An empty device `db`, and a stream to read.
+pub(crate) fn restoring_shelf(stream: Bytes) -> Result<CappedShelf, Memory> {
+    let alloc = stream.allocator();
+    let mut files = one_file("db", Bytes::new(alloc), &[])?;
+    push_file(&mut files, "-", stream, &[])?;
+    let replies = files.another();
+    let none = files.another();
+    Ok(CappedShelf::new(MemShelf::new(files, replies, none), WHOLE))
+}

@@ -3,6 +3,7 @@
 //! In a table a line that begins with `##` is a title, and is printed as it is; each other line is printed behind `> `, above what comes of it.
 #![tactic(auto)]
 
+mod backups;
 mod capped;
 mod commands;
 mod failing;
