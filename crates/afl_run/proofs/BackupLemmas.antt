@@ -6,7 +6,7 @@ use Rattle.std.proofs.lemmas.Option.{slice_get_within}
 use Rattle.afl_outside.specs.Disk.{Moment}
 use Rattle.afl_outside.specs.Sink.{SinkState, IsNewSink}
 use Rattle.afl_outside.proofs.Streams.{wrote_all}
-use Rattle.backup_format.specs.Backups.{backup}
+use Rattle.backup_format.specs.Backups.{backup as backup_of}
 use Rattle.backup_stream.specs.Dumps.{HasEndCause, HasNoPinCause}
 use Rattle.event_core.specs.Cells.{at}
 use Rattle.event_core.specs.declared.entry.Entry.TheVariants.{Pin}
@@ -34,12 +34,12 @@ module _ {D K : Type 0} (moment : D → Moment) (sink_state : K → SinkState) (
       ∙ ap (λ (es : List Event). database_with db (told start es) report.place) (sym dumped.later.1)
 
   held_whole : report.end ≡ backups.Whole → (db : Database) → BeganAs (moment start.opened.disk).state db
-      → IfSome (sink_state report.sink).first (λ begun. (sink_state report.sink).held ≡ Some (begun ++ backup (database_with db (told start all) report.place)))
+      → IfSome (sink_state report.sink).first (λ begun. (sink_state report.sink).held ≡ Some (begun ++ backup_of (database_with db (told start all) report.place)))
   held_whole is db began = elim dumped.dumped [
     | inl under ↦
         let pin = slice_get_within (entries_in dumped.seen) under.pin (Pin session) under.began.is in
         let within : report.place ≤ length (entries_in dumped.seen) = omega (arith, pin, under.behind) in
-        let bytes = under.whole is db began ∙ ap backup (same_database db within) in
+        let bytes = under.whole is db began ∙ ap backup_of (same_database db within) in
         subst (λ (out : List ℕ). IfSome (sink_state report.sink).first (λ begun. (sink_state report.sink).held ≡ Some (begun ++ out))) bytes
         (wrote_all name under.bytes (sink_state sink) (sink_state report.sink) new under.takes)
     | inr none ↦

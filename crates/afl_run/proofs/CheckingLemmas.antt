@@ -1,5 +1,5 @@
 -- What a run reports of a file that it checked.
-use Rattle.std.proofs.Common.{◌≡◌, ◌≢◌, ◌⊎◌, ◌∙◌, ℕ, List, [], ◌∷◌, ◌++◌, take, Option, Some, None, IfSome, inl, inr, refl, sym, ap, subst, arith}
+use Rattle.std.proofs.Common.{◌≡◌, ◌≢◌, ◌⊎◌, ◌∙◌, ℕ, List, [], ◌∷◌, ◌++◌, take, Option, Some, None, IfSome, IsSome, inl, inr, refl, sym, ap, subst, arith}
 use Rattle.std.specs.Prelude.{Result, Ok, Err}
 use Rattle.afl_outside.specs.Counts.{Rose, risen}
 use Rattle.afl_outside.specs.Disk.{DiskGoesOn, IsNewDisk, Moment}
@@ -133,3 +133,37 @@ checks_nothing moment sink_state asked old now notice fails others = record {
   sound = λ done. tt;
   both = λ done. absurd (elim fails [ inl want ↦ cc (want.0, done) | inr fault ↦ cc (fault.0, done) ]);
 }
+
+-- a report that has the reply and the device
+module _ {D K : Type 0} (moment : D → Moment) (sink_state : K → SinkState) where
+  no_usage : (old new : SinkState) (notice : Notice) (answer : Result Sound CheckFault) (word : ℕ) → notice ≡ notices.Usage word → TellsChecked old new notice answer → ⊥
+  no_usage old new notice (Ok sound) word is told = absurd (elim told.told [
+    | inl done ↦ cc (done, is)
+    | inr other ↦ elim other [ inl memory ↦ cc (memory, is) | inr stream ↦ cc (stream.0, is) ]
+  ])
+  no_usage old new notice (Err faults.Disk) word is told = absurd (cc (told.0, is))
+  no_usage old new notice (Err (faults.NotDatabase page)) word is told = absurd (cc (told.0, is))
+  no_usage old new notice (Err (faults.Damaged page)) word is told = absurd (cc (told.0, is))
+  no_usage old new notice (Err (faults.WrongOverlap page)) word is told = absurd (cc (told.0, is))
+  no_usage old new notice (Err faults.Memory) word is told = absurd (cc (told.0, is))
+
+  pub checked_tells : (sink : K) (disk : D) (notice : Notice) (device : Option D) (reply : Option K) → IsSome reply × IsSome device
+      → IfSome reply (λ written. IfSome device (λ now. IsChecking (sink_state sink) (sink_state written) (moment disk) (moment now) notice))
+      → (word : ℕ) → notice ≡ notices.Usage word → ⊥
+  checked_tells sink disk notice device None both came word is = absurd (let some = both.0 in cc (some))
+  checked_tells sink disk notice None (Some written) both came word is = absurd (let some = both.1 in cc (some))
+  checked_tells sink disk notice (Some now) (Some written) both came word is = no_usage (sink_state sink) (sink_state written) notice came.answer word is came.told
+
+  pub checks_any : {F : Type 0} (state : F → ShelfState) (asked : Word) (old mid : ShelfState) (shelf after : F) (apart : asked ≢ standard)
+      (disk : D) (is_new : IsNewDisk asked (moment disk).state) (content : IfSome (old.devices asked) (λ bytes. (moment disk).state.first ≡ Some bytes))
+      (others : LeavesOthers asked old mid) (last : LeavesOthers standard mid (state shelf)) (sink : K) (fresh : IsNewSink standard (sink_state sink))
+      (told : IfSome (mid.replies standard) (λ bytes. (sink_state sink).first ≡ Some bytes)) (notice : Notice) (device : Option D) (reply : Option K) (same : after ≡ shelf)
+      → IsSome reply × IsSome device
+      → IfSome reply (λ written. IfSome device (λ now. IsChecking (sink_state sink) (sink_state written) (moment disk) (moment now) notice))
+      → Checks moment sink_state old (state after) notice asked device reply
+  checks_any state asked old mid shelf after apart disk is_new content others last sink fresh told notice device None same both came = absurd (let some = both.0 in cc (some))
+  checks_any state asked old mid shelf after apart disk is_new content others last sink fresh told notice None (Some written) same both came =
+      absurd (let some = both.1 in cc (some))
+  checks_any {F = F} state asked old mid shelf after apart disk is_new content others last sink fresh told notice (Some now) (Some written) same both came =
+      subst (λ (s : F). Checks moment sink_state old (state s) notice asked (Some now) (Some written)) (sym same)
+      (checks_came moment sink_state asked old mid (state shelf) apart disk is_new content others last sink written now notice fresh told came)

@@ -75,9 +75,9 @@ module _ {D K : Type 0} (moment : D → Moment) (sink_state : K → SinkState) (
       → IsBackupOf moment sink_state start session sink report all → IsBackupOpenedAs shelf name (sink_state report.sink)
   as_opened shelf name sink report all is has = elim has.dumped [
     | inl under ↦ record {
-        name_told = subst (λ (o : Option Word). IfSome o (λ told. told ≡ name)) (sym under.takes.name) is.new.name;
-        content = subst (λ (o : Option Word). IfSome (shelf.replies name) (λ bytes. o ≡ Some bytes)) (sym under.takes.first) is.content;
-      }
+      name_told = subst (λ (o : Option Word). IfSome o (λ told. told ≡ name)) (sym under.takes.name) is.new.name;
+      content = subst (λ (o : Option Word). IfSome (shelf.replies name) (λ bytes. o ≡ Some bytes)) (sym under.takes.first) is.content;
+    }
     | inr none ↦ subst (λ (s : SinkState). IsBackupOpenedAs shelf name s) (sym none.kept) (record { name_told = is.new.name; content = is.content })
   ]
 

@@ -68,8 +68,12 @@ module _ (pages : ℕ) (source read : SourceState) (new : IsNewSource standard s
     tells (Err (faults.NotBackup at)) told measured tested cause = inl (told ∙ ap restored_notice (sym tested))
     tells (Err (faults.Full needed free)) told measured tested cause = inl (told ∙ ap restored_notice (sym tested))
     tells (Err (faults.NotDatabase page)) told measured tested cause =
-        inr (inr (inr (inr (page, told, λ honest. subst (λ (o : Option (List ℕ)). IfSome o (λ _. ⊥)) (is_new ∙ is_file)
-        (cause (subst (λ (b : Bool). IsTrue b) came.same.honest honest))))))
+        inr (inr (inr (inr (
+          page,
+          told,
+          λ honest. subst (λ (o : Option (List ℕ)). IfSome o (λ _. ⊥)) (is_new ∙ is_file)
+              (cause (subst (λ (b : Bool). IsTrue b) came.same.honest honest)),
+        ))))
     tells (Err faults.Memory) told measured tested cause = inr (inl told)
 
     all_told : Told
@@ -145,10 +149,13 @@ module _ {D S : Type 0} (moment : D → Moment) (source_state : S → SourceStat
     others = leaves_asked asked (standard ∷ []) old mid new others (only_asked standard mid new last);
     handed = λ fits. omega (arith, handed, same_handed, fits);
     unopened = λ none. absurd (cc (none));
-    unread = λ none. (is_new.seen, elim fails [
-      | inl want ↦ inl want.0
-      | inr fault ↦ inr (fault.0, rose_since old.faults mid.faults new.faults others.later fault.1, sym told_same ∙ fault.2)
-    ]);
+    unread = λ none. (
+      is_new.seen,
+      elim fails [
+        | inl want ↦ inl want.0
+        | inr fault ↦ inr (fault.0, rose_since old.faults mid.faults new.faults others.later fault.1, sym told_same ∙ fault.2)
+      ],
+    );
     tested = tt;
     made = λ done. tt;
     both = λ done. absurd (elim fails [ inl want ↦ cc (want.0, done) | inr fault ↦ cc (fault.0, done) ]);

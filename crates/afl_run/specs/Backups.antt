@@ -26,10 +26,10 @@ ended None = None
 ended (Some report) = Some report.end
 
 -- no backup was made, restored or checked
-pub record HasNoBackup {S K : Type 0} (made : Option (BackupReport K)) (restored : Option S) (checked : Option K) : Type 0 where
-  pub made : made ≡ None
-  pub restored : restored ≡ None
-  pub checked : checked ≡ None
+pub record HasNoBackup {S K : Type 0} (report : Option (BackupReport K)) (source : Option S) (reply : Option K) : Type 0 where
+  pub made : report ≡ None
+  pub restored : source ≡ None
+  pub checked : reply ≡ None
 
 -- the sink has the backup's name, where it tells names, and began as the shelf told
 pub record IsBackupOpenedAs (shelf : ShelfState) (asked : Word) (sink : SinkState) : Type 0 where

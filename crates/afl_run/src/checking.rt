@@ -3,7 +3,7 @@ ghost use Rattle.std.specs.Prelude.{◌≡◌, ◌≢◌, ℕ, [], Err, IfOk, If
 ghost use Rattle.run_opening.specs.Names.{standard};
 ghost use Rattle.run_opening.specs.Notice.{status_of};
 ghost use Rattle.afl_run.specs.Checks.{checked_notice, Checks, sound_line};
-ghost use Rattle.afl_run.specs.Inner.Checking.{IsChecking, IsWritten};
+ghost use Rattle.afl_run.specs.Inner.Checking.{IsChecking, IsWritten, TellsChecked};
 
 use crate::report::{Report, unrun};
 use afl_outside::{Shelf, Sink};
@@ -52,10 +52,7 @@ fn checked<F: Shelf>(alloc: Global, sink: F::K, disk: F::Device, shelf: F) -> Re
 {
     let mut sink = sink;
     let (answer, disk) = check_file(alloc, disk);
-    let notice = match answer {
-        Ok(sound) => write_line(alloc, &mut sink, sound),
-        Err(fault) => notice_of(fault),
-    };
+    let notice = write_answer(alloc, &mut sink, answer);
     Report {
         status: status(notice),
         notice,
@@ -68,6 +65,16 @@ fn checked<F: Shelf>(alloc: Global, sink: F::K, disk: F::Device, shelf: F) -> Re
         free_pages: 0,
         disk: Some(disk),
         shelf,
+    }
+}
+
+/// Writes what is told of a file, if it is sound.
+fn write_answer<K: Sink>(alloc: Global, sink: &mut K, answer: Result<Sound, CheckFault>) -> Notice
+    ensures { TellsChecked (K.state sink.old) (K.state sink.new) result answer }
+{
+    match answer {
+        Ok(sound) => write_line(alloc, sink, sound),
+        Err(fault) => notice_of(fault),
     }
 }
 

@@ -12,9 +12,7 @@ use crate::over::{Inputs, Outcome, run_over};
 use crate::report::{Report, unrun};
 use afl_outside::{Disk, Gate, Shelf};
 use command_words::Arg;
-use run_opening::{
-    Limits, Notice, StoreRun, open_device, open_reply, open_streams, status,
-};
+use run_opening::{Limits, Notice, StoreRun, open_device, open_reply, open_streams, status};
 use session_threads::Options;
 use std::alloc::Global;
 use std::sync::Wait;

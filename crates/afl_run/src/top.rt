@@ -121,8 +121,8 @@ pub fn run<F: Shelf, R: Threads + Wait + Sync, G: Gate>(
             },
         ) => {
             let dumped = word_at(words, device);
-            let limits = Limits { pages, history };
-            run_dump(rt, alloc, dumped, limits, shelf, gate)
+            let kept = Limits { pages, history };
+            run_dump(rt, alloc, dumped, kept, shelf, gate)
         }
         Ok(Form::Restore { device, pages }) => {
             let emptied = name_at(words, device);

@@ -1,5 +1,5 @@
 -- What came of a check once all was opened.
-use Rattle.std.specs.Prelude.{◌≡◌, ◌⊎◌, ℕ, List, take, Result, Ok, Err, IfSome}
+use Rattle.std.specs.Prelude.{◌≡◌, ◌⊎◌, ℕ, List, take, Result, Ok, Err, IfErr, IfOk, IfSome}
 use Rattle.afl_outside.specs.Counts.{Rose}
 use Rattle.afl_outside.specs.Disk.{Moment}
 use Rattle.afl_outside.specs.Sink.{SinkState, Takes}
@@ -26,12 +26,10 @@ TellsChecked old new notice (Ok sound) = IsWritten old new (sound_line sound) no
 TellsChecked old new notice (Err fault) = (notice ≡ checked_notice (Err fault)) × (new ≡ old)
 
 abbrev pub CausesFault : Result Sound CheckFault → Moment → Moment → Type 0
-CausesFault (Ok sound) before now = Unit {0}
-CausesFault (Err fault) before now = HasCause fault before.state now.state
+CausesFault answer before now = IfErr answer (λ fault. HasCause fault before.state now.state)
 
 abbrev pub StandsFor : Result Sound CheckFault → List ℕ → Type 0
-StandsFor (Ok sound) file = (db : Database) × Stands file db × (sound ≡ sound_database db)
-StandsFor (Err fault) file = Unit {0}
+StandsFor answer file = IfOk answer (λ sound. (db : Database) × Stands file db × (sound ≡ sound_database db))
 
 pub record IsChecking (old new : SinkState) (before now : Moment) (notice : Notice) : Type 0 where
   pub answer : Result Sound CheckFault

@@ -25,6 +25,9 @@ returns-in-Ok g c =
 pub returns-in-Err : goal.returns-in-Err
 returns-in-Err g c =
     let moment = g.D.Disk.moment in
-    inl (unrun_as c.args.options.style moment g.S.Source.state g.K.Sink.state (standing moment c.args.store) _ _ _ c.unrun.result c.unrun.ensures refl
-    (c.close-disk.ensures.disk ∙ ap (λ (parts : StoreParts g.row.D.Denot). parts.file.disk) (c.free_pages.ensures.same ∙ c.in-Err.ensures.err.0))
-    (c.from-free_pages.ensures ∙ c.free_pages.ensures.count ∙ ap (λ (parts : StoreParts g.row.D.Denot). length (unused_pages parts.ledger)) c.in-Err.ensures.err.0), refl)
+    inl (
+      unrun_as c.args.options.style moment g.S.Source.state g.K.Sink.state (standing moment c.args.store) _ _ _ c.unrun.result c.unrun.ensures refl
+          (c.close-disk.ensures.disk ∙ ap (λ (parts : StoreParts g.row.D.Denot). parts.file.disk) (c.free_pages.ensures.same ∙ c.in-Err.ensures.err.0))
+          (c.from-free_pages.ensures ∙ c.free_pages.ensures.count ∙ ap (λ (parts : StoreParts g.row.D.Denot). length (unused_pages parts.ledger)) c.in-Err.ensures.err.0),
+      refl,
+    )

@@ -202,9 +202,13 @@ returns-in-Ok-Run g c =
       no_session = λ init. absurd (two_forms words (Run form.device form.workers form.pages form.history form.printing form.dump form.scripts) (Init 1) one (refl, init) (λ is. absurd (cc (is))));
       no_device = λ try. absurd (two_forms words (Run form.device form.workers form.pages form.history form.printing form.dump form.scripts) Try one try (λ is. absurd (cc (is))));
       alone = λ number workers generate. absurd (two_forms words (Run form.device form.workers form.pages form.history form.printing form.dump form.scripts) (Generate number workers) one generate (λ is. absurd (cc (is))));
-      no_backup = λ none. record { made = not_asked _ moment source sink old (state r.shelf) r.notice r.history r.free_pages r.sessions r.backup _ _ _ _ r.disk
-          (subst (λ (l : List Word). RunsScripts (in_style form.printing) moment source sink old (state r.shelf) r.notice r.history r.sessions r.backup r.free_pages
-          c.word_at-target.result.now _ l form.pages form.history r.disk) (no_name words form.dump names (none.runs _ _ _ _ _ _ one.1) c.word_if-backups.ensures) runs); restored = e.restored; checked = e.checked };
+      no_backup = λ none. record {
+        made = not_asked _ moment source sink old (state r.shelf) r.notice r.history r.free_pages r.sessions r.backup _ _ _ _ r.disk
+            (subst (λ (l : List Word). RunsScripts (in_style form.printing) moment source sink old (state r.shelf) r.notice r.history r.sessions r.backup r.free_pages
+            c.word_at-target.result.now _ l form.pages form.history r.disk) (no_name words form.dump names (none.runs _ _ _ _ _ _ one.1) c.word_if-backups.ensures) runs);
+        restored = e.restored;
+        checked = e.checked;
+      };
       not_generated = λ other. e.generated;
     }
 
