@@ -1,4 +1,4 @@
-use Rattle.std.proofs.Common.{◌≡◌, ◌≢◌, ◌≤◌, ◌+◌, ◌++◌, ◌∷◌, ℕ, List, [], length, All, Option, None, Some, IfSome, Ok, refl, sym, ◌∙◌, ap, subst}
+use Rattle.std.proofs.Common.{◌≡◌, ◌≢◌, ◌≤◌, ◌+◌, ◌++◌, ◌∷◌, ℕ, List, [], length, drop, All, Option, None, Some, IfSome, Ok, refl, sym, ◌∙◌, ap, subst}
 use Rattle.command_words.specs.declared.words.forms.Form.TheVariants.{Try, Init, Run, Generate, Dump, Restore, Check}
 use Rattle.command_words.specs.Faults.{IsFault}
 use Rattle.command_words.specs.Forms.{IsForm}
@@ -205,7 +205,7 @@ returns-in-Ok-Run g c =
       no_backup = λ none. record {
         made = not_asked _ moment source sink old (state r.shelf) r.notice r.history r.free_pages r.sessions r.backup _ _ _ _ r.disk
             (subst (λ (l : List Word). RunsScripts (in_style form.printing) moment source sink old (state r.shelf) r.notice r.history r.sessions r.backup r.free_pages
-            c.word_at-target.result.now _ l form.pages form.history r.disk) (no_name words form.dump names (none.runs _ _ _ _ _ _ one.1) c.word_if-backups.ensures) runs);
+            c.word_at-target.result.now (drop form.scripts words) l form.pages form.history r.disk) (no_name words form.dump names (none.runs _ _ _ _ _ _ one.1) c.word_if-backups.ensures) runs);
         restored = e.restored;
         checked = e.checked;
       };
