@@ -167,3 +167,13 @@ module _ {D K : Type 0} (moment : D → Moment) (sink_state : K → SinkState) w
   checks_any {F = F} state asked old mid shelf after apart disk is_new content others last sink fresh told notice (Some now) (Some written) same both came =
       subst (λ (s : F). Checks moment sink_state old (state s) notice asked (Some now) (Some written)) (sym same)
       (checks_came moment sink_state asked old mid (state shelf) apart disk is_new content others last sink written now notice fresh told came)
+
+-- a report that has these parts
+pub checks_reported : {F D K : Type 0} (moment : D → Moment) (sink_state : K → SinkState) (state : F → ShelfState) (asked : Word) (old : ShelfState)
+    (after shelf : F) (notice told : Notice) (device disk : Option D) (reply sink : Option K) → after ≡ shelf → notice ≡ told → device ≡ disk → reply ≡ sink
+    → Checks moment sink_state old (state shelf) told asked disk sink → Checks moment sink_state old (state after) notice asked device reply
+checks_reported {F} {D} {K} moment sink_state state asked old after shelf notice told device disk reply sink a n d r holds =
+    subst (λ (x : F). Checks moment sink_state old (state x) notice asked device reply) (sym a)
+    (subst (λ (x : Notice). Checks moment sink_state old (state shelf) x asked device reply) (sym n)
+    (subst (λ (x : Option D). Checks moment sink_state old (state shelf) told asked x reply) (sym d)
+    (subst (λ (x : Option K). Checks moment sink_state old (state shelf) told asked disk x) (sym r) holds)))

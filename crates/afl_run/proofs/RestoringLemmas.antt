@@ -210,3 +210,13 @@ module _ {D S : Type 0} (moment : D → Moment) (source_state : S → SourceStat
   restores_any {F = F} state asked pages old mid shelf after apart disk is_new content others handed last same_handed source fresh told notice (Some now) (Some read) same both came =
       subst (λ (s : F). Restores moment source_state old (state s) notice asked pages (Some now) (Some read)) (sym same)
       (restores_came moment source_state asked pages old mid (state shelf) apart disk is_new content others handed last same_handed source read now notice fresh told came)
+
+-- a report that has these parts
+pub restores_reported : {F D S : Type 0} (moment : D → Moment) (source_state : S → SourceState) (state : F → ShelfState) (asked : Word) (pages : ℕ) (old : ShelfState)
+    (after shelf : F) (notice told : Notice) (device disk : Option D) (restored source : Option S) → after ≡ shelf → notice ≡ told → device ≡ disk → restored ≡ source
+    → Restores moment source_state old (state shelf) told asked pages disk source → Restores moment source_state old (state after) notice asked pages device restored
+restores_reported {F} {D} {S} moment source_state state asked pages old after shelf notice told device disk restored source a n d r holds =
+    subst (λ (x : F). Restores moment source_state old (state x) notice asked pages device restored) (sym a)
+    (subst (λ (x : Notice). Restores moment source_state old (state shelf) x asked pages device restored) (sym n)
+    (subst (λ (x : Option D). Restores moment source_state old (state shelf) told asked pages x restored) (sym d)
+    (subst (λ (x : Option S). Restores moment source_state old (state shelf) told asked pages disk x) (sym r) holds)))
