@@ -1,27 +1,26 @@
 -- What a check of a file says of the database that it stands for.
-use Rattle.std.proofs.Common.{◌≡◌, ◌+◌, ◌-◌, ◌^◌, ℕ, suc, min, Bool, true, false, List, [], ◌∷◌, length, map, None, Some, Option, Result, Ok, Err, refl, sym, ◌∙◌, ap, subst, arith}
-use Rattle.std.specs.Prelude.{◌&&◌, is_none, is_ok}
+use Rattle.std.proofs.Common.{◌≡◌, ◌+◌, ℕ, suc, min, Bool, true, false, List, [], ◌∷◌, length, map, None, Some, Option, Result, Ok, Err, refl, sym, ◌∙◌, ap, subst, arith}
+use Rattle.std.specs.Prelude.{is_none, is_ok}
 use Rattle.std.specs.List.{AllByRecursion, AllZip, list_all, sum_by}
-use Rattle.std.specs.Str.{bytes_eq}
 use Rattle.std.proofs.lemmas.Bool.{and_parts, and_from}
 use Rattle.std.proofs.lemmas.List.Sums.{sum_by-cons}
 use Rattle.cell_values.specs.declared.datum.Row.{Row}
 use Rattle.cell_values.specs.declared.schema.Schema.{Schema}
 use Rattle.array_rows.specs.Arrays.{AreRowsOf}
 use Rattle.array_geom.specs.declared.chunk.Chunk.{Chunk}
-use Rattle.array_geom.specs.Geometry.{ChunkNumber, has_core}
+use Rattle.array_geom.specs.Geometry.{ChunkNumber}
 use Rattle.logical_plan.specs.Typing.{AreSound}
 use Rattle.logical_plan.specs.declared.names.NameEntry.{NameEntry}
 use Rattle.logical_plan.specs.declared.names.Names.{Names}
-use Rattle.page_chain.specs.Pages.{page_size, first_past, blob}
+use Rattle.page_chain.specs.Pages.{page_size, first_past}
 use Rattle.chunk_map.specs.declared.directory.DirEntry.{DirEntry}
 use Rattle.chunk_map.specs.declared.directory.Directory.{Directory}
 use Rattle.chunk_map.specs.Entries.{AreRising, numbers}
 use Rattle.chunk_map.specs.Spelling.{IsDirectory, IsEntry}
 use Rattle.plan_changes.specs.Databases.{Database, HoldsArrays, Stored, Version, entry_of}
 use Rattle.version_catalog.specs.declared.rules.catalog.CatalogArray.{CatalogArray}
-use Rattle.backup_format.specs.Pieces.{Piece, rising_numbers, stored_payload}
-use Rattle.backup_format.specs.Table.{chunk_in, fit_together, is_its_payload, rows_of}
+use Rattle.backup_format.specs.Pieces.{rising_numbers}
+use Rattle.backup_format.specs.Table.{chunk_in, is_its_payload, rows_of}
 use Rattle.backup_format.proofs.CoreChunks.{core_long}
 use Rattle.backup_format.proofs.RisingNumbers.{AreSized, the_only}
 use Rattle.file_meaning.specs.Opening.{opened}
@@ -30,12 +29,12 @@ use Rattle.file_meaning.specs.declared.meaning.found.Found.{Found}
 use Rattle.file_meaning.proofs.Elsewhere.{AreThere}
 use Rattle.file_reading.specs.Reading.{IsFound}
 use Rattle.file_reading.specs.Reading as reading
-use Rattle.file_checking.specs.Checking.{AreDirectories, AreOfBytes, IsRead, PassVersions, Passes, PassesFound, PassesVersion, piece_in, pieces_in}
+use Rattle.file_checking.specs.Checking.{AreDirectories, AreOfBytes, IsRead, PassVersions, PassesFound, PassesVersion, piece_in, pieces_in}
 use Rattle.file_checking.specs.Checks.{Answers, Tested, checked, checked_found, chunks_of, behind, each, is_whole, most, or_fault, sound_database, sound_found, test_found, test_overlap, test_overlaps, test_payload, test_payloads, test_rows}
-use Rattle.file_checking.specs.Inner.Steps.{AreEntriesOf, AreRowsChecked, AreSmall, IsAnswer, IsDirectoryOf, IsRowOf, IsSmall, Stops, overlap_fault, payload_in}
+use Rattle.file_checking.specs.Inner.Steps.{AreEntriesOf, AreRowsChecked, AreSmall, IsAnswer, IsDirectoryOf, IsRowOf, IsSmall, Stops, payload_in}
 use Rattle.file_checking.specs.declared.sound.Sound.{Sound}
 use Rattle.file_checking.specs.declared.sound.CheckFault.{CheckFault}
-use Rattle.file_checking.specs.declared.sound.CheckFault.TheVariants.{Disk, NotDatabase, Damaged, WrongOverlap, Memory}
+use Rattle.file_checking.specs.declared.sound.CheckFault.TheVariants.{Disk, NotDatabase, WrongOverlap, Memory}
 use Rattle.file_checking.proofs.Files.{checked_files_stand}
 use Rattle.file_checking.proofs.Standing.{standing_files_pass}
 use Rattle.file_checking.proofs.FoundRows.{found_rows, payloads_lie_within}

@@ -1,16 +1,14 @@
 -- Overlaps of a version that are compared, and those that aren't.
-use Rattle.std.proofs.Common.{◌≡◌, ℕ, Bool, true, false, List, [], ◌∷◌, map, Option, None, Some, Result, Ok, Err, refl, sym, ◌∙◌, ap, subst}
+use Rattle.std.proofs.Common.{◌≡◌, ℕ, Bool, true, false, List, Option, None, Some, Ok, Err, refl, sym, ◌∙◌, subst}
 use Rattle.std.specs.Prelude.{◌&&◌, is_none, MatchResult}
-use Rattle.cell_values.specs.declared.schema.Dimension.{Dimension}
 use Rattle.cell_values.specs.declared.schema.Schema.{Schema}
 use Rattle.cell_values.specs.Schemas.{IsValid}
-use Rattle.array_geom.specs.Geometry.{ChunkNumber}
 use Rattle.array_geom.specs.Link.{NumbersRise}
 use Rattle.chunk_map.specs.declared.directory.DirEntry.{DirEntry}
 use Rattle.chunk_map.specs.declared.directory.Directory.{Directory}
 use Rattle.backup_format.specs.Table.{rows_of}
-use Rattle.file_checking.specs.Checking.{piece_in, pieces_in}
-use Rattle.file_checking.specs.Checks.{Tested, behind, test_overlaps, test_payloads}
+use Rattle.file_checking.specs.Checking.{pieces_in}
+use Rattle.file_checking.specs.Checks.{Tested, test_overlaps, test_payloads}
 use Rattle.file_checking.specs.Inner.Steps.{AreOverlaps, AreWhole, IsChecked, IsDirectoryOf, Stops, has_overlaps, overlap_fault, test_entries}
 use Rattle.file_checking.specs.declared.sound.CheckFault.{CheckFault}
 use Rattle.file_checking.proofs.Alone.{alone_fit}

@@ -1,5 +1,5 @@
 -- What is answered of a file as it opens.
-use Rattle.std.proofs.Common.{◌≡◌, ◌≤◌, ℕ, List, Option, None, Some, IfSome, IfErr, Result, Ok, Err, refl, sym, ◌∙◌, subst, ap}
+use Rattle.std.proofs.Common.{◌≡◌, ◌≤◌, ℕ, List, Option, Some, IfSome, IfErr, Result, Ok, Err, refl, sym, ◌∙◌, subst}
 use Rattle.std.specs.Prelude.{IsErrOf, IfOk}
 use Rattle.afl_outside.specs.Counts.{Rose}
 use Rattle.afl_outside.specs.Disk.{DiskState, Moment}
@@ -26,7 +26,6 @@ use Rattle.file_checking.specs.Checks.{Answers, HasCause, checked, sound_databas
 use Rattle.file_checking.specs.Inner.Steps.{IsAnswer, fault_by}
 use Rattle.file_checking.specs.declared.sound.Sound.{Sound}
 use Rattle.file_checking.specs.declared.sound.CheckFault.{CheckFault}
-use Rattle.file_checking.specs.declared.sound.CheckFault.TheVariants.{Disk, NotDatabase, Memory}
 use Rattle.file_checking.proofs.Answered.{disk_answer, memory_answer, unopened_answer}
 use Rattle.file_checking.proofs.Tests.{cause_since}
 

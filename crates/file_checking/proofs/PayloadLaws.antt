@@ -1,5 +1,5 @@
 -- What reading a payload answers.
-use Rattle.std.proofs.Common.{◌≡◌, ℕ, ◌<◌, Bool, true, false, List, [], ◌∷◌, length, map, drop, slice_index, Option, Some, None, Result, Ok, Err, refl, sym, ◌∙◌, ap, subst}
+use Rattle.std.proofs.Common.{◌≡◌, ℕ, Bool, false, List, [], ◌∷◌, length, map, slice_index, Option, Some, Result, Ok, Err, refl, sym, ◌∙◌, ap, subst}
 use Rattle.std.specs.Prelude.{◌&&◌, is_none, is_ok}
 use Rattle.std.specs.Str.{bytes_eq}
 use Rattle.cell_values.specs.declared.datum.Row.{Row}
@@ -16,11 +16,11 @@ use Rattle.chunk_rle.specs.Decoding.{Answers as Decodes}
 use Rattle.chunk_rle.specs.declared.decoding.BadPayload.{BadPayload}
 use Rattle.chunk_rle.specs.declared.decoding.BadPayload.TheVariants.{At, Memory as OutOfMemory}
 use Rattle.backup_format.specs.Laws.{AreBytes}
-use Rattle.backup_format.specs.Pieces.{Piece, stored_payload}
+use Rattle.backup_format.specs.Pieces.{stored_payload}
 use Rattle.backup_format.specs.Table.{chunk_in, chunk_or_none, chunk_of_piece, rows_of}
 use Rattle.file_checking.specs.Checking.{piece_in}
 use Rattle.file_checking.specs.Checks.{Tested, each, or_fault, test_overlap, test_payload}
-use Rattle.file_checking.specs.Inner.Steps.{AreChunksRead, AreOverlaps, IsChunkRead, IsDecoded, IsPayloadRead, Stops, overlap_fault, overlaps_of, payload_in}
+use Rattle.file_checking.specs.Inner.Steps.{AreChunksRead, AreOverlaps, IsChunkRead, IsDecoded, IsPayloadRead, Stops, overlap_fault, payload_in}
 use Rattle.file_checking.specs.declared.sound.CheckFault.{CheckFault}
 use Rattle.file_checking.specs.declared.sound.CheckFault.TheVariants.{Disk, NotDatabase, Damaged, WrongOverlap, Memory}
 

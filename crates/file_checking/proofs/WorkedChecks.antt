@@ -1,5 +1,5 @@
 -- Two files, checked.
-use Rattle.std.proofs.Common.{◌≡◌, ℕ, List, [], ◌∷◌, Ok, Err, refl, ◌∙◌, ap}
+use Rattle.std.proofs.Common.{◌≡◌, [], ◌∷◌, Ok, Err, refl, ◌∙◌, ap}
 use Rattle.std.specs.Prelude.{codes}
 use Rattle.file_items.specs.Items.{repeat}
 use Rattle.file_items.specs.Pages.{pages_at}
@@ -8,7 +8,6 @@ use Rattle.page_chain.specs.Places.{number_at}
 use Rattle.page_chain.specs.declared.slots.layout.sides.Side.TheVariants.{A}
 use Rattle.page_chain.specs.declared.slots.layout.sides.Format.TheVariants.{Two}
 use Rattle.chunk_map.specs.declared.directory.DirEntry.{DirEntry}
-use Rattle.chunk_map.specs.declared.directory.Directory.{Directory}
 use Rattle.chunk_map.specs.Table as items
 use Rattle.chunk_rle.specs.Frames.{all_from, any_from, is_held}
 use Rattle.chunk_rle.specs.Table.{position_run_at, position_runs_at, value_fields, is_same, is_allowed, run_at, column_at, columns_at, runs_at}

@@ -1,5 +1,5 @@
 -- Counted coordinates and their bounds, as functions read lists from the front.
-use Rattle.std.proofs.Common.{◌≡◌, ◌∙◌, ◌⊎◌, inl, inr, Bool, true, false, ℕ, ◌≤◌, ◌<◌, ℤ, pos, ◌+ℤ◌, List, [], ◌∷◌, ◌++◌, append-nil, append_assoc, map, length, get_or, refl, rules, sym, ap, arith}
+use Rattle.std.proofs.Common.{◌≡◌, ◌∙◌, ◌⊎◌, inl, inr, Bool, true, false, ℕ, ◌≤◌, ◌<◌, ℤ, pos, ◌+ℤ◌, List, [], ◌∷◌, ◌++◌, append_assoc, map, length, get_or, refl, rules, sym, ap, arith}
 use Rattle.std.specs.Prelude.{int_le, ◌&&◌, ◌==◌}
 use Rattle.array_rows.specs.Boxes.{is_between}
 use Rattle.array_geom.proofs.Fronts.{rest, rest_is}

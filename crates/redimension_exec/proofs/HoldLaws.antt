@@ -1,5 +1,5 @@
 -- Chunks without margins that hold rows, with one row more.
-use Rattle.std.proofs.Common.{◌≡◌, ℕ, suc, ◌+◌, Bool, true, false, cond, List, [], ◌∷◌, ◌++◌, length, Option, Some, None, refl, sym, ap, ◌∙◌, subst}
+use Rattle.std.proofs.Common.{◌≡◌, ℕ, suc, Bool, true, false, cond, List, [], ◌∷◌, ◌++◌, length, Option, Some, None, refl, sym, ap, ◌∙◌, subst}
 use Rattle.std.proofs.lemmas.List.{append-nil}
 use Rattle.std.specs.BTreeMap as tree
 use Rattle.std.specs.BTreeMap.{BTreeMap, Updates}
@@ -16,7 +16,7 @@ use Rattle.cell_values.specs.Schemas.{IsValid}
 use Rattle.array_rows.specs.Boxes.{bounds_of, is_inside, within}
 use Rattle.array_rows.specs.Rows.{Coordinate}
 use Rattle.array_geom.specs.declared.chunk.Chunk.{Chunk}
-use Rattle.array_geom.specs.Geometry.{ChunkNumber, HasFrame, chunk_of, core, first_in, frame, has_core, position_of}
+use Rattle.array_geom.specs.Geometry.{ChunkNumber, HasFrame, chunk_of, first_in, frame, has_core, position_of}
 use Rattle.array_geom.specs.Link.{IsPart, number_order}
 use Rattle.array_geom.proofs.CoreLaws.{chunk_has_core, core_has, core_in_frame}
 use Rattle.array_geom.proofs.NearLemmas.{valid_placed}

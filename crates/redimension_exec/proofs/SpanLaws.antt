@@ -1,16 +1,16 @@
 -- Boxes as grids.
-use Rattle.std.proofs.Common.{◌≡◌, ℕ, zero, suc, ◌+◌, ◌*◌, ◌-◌, ◌/◌, ◌%◌, ◌<◌, ◌≤◌, ◌^◌, ℤ, pos, negsuc, ◌≤ℤ◌, ◌<ℤ◌, ◌+ℤ◌, ◌-ℤ◌, true, ◌&&◌, List, [], ◌∷◌, ◌++◌, append-nil, append_assoc, length, get_or, map, refl, sym, ap, ◌∙◌, subst, arith}
-use Rattle.std.specs.Prelude.{int_le, int_lt, unsigned_abs}
+use Rattle.std.proofs.Common.{◌≡◌, ℕ, suc, ◌+◌, ◌*◌, ◌-◌, ◌/◌, ◌%◌, ◌<◌, ◌≤◌, ◌^◌, ℤ, pos, negsuc, ◌≤ℤ◌, ◌+ℤ◌, ◌-ℤ◌, true, ◌&&◌, List, [], ◌∷◌, length, get_or, refl, sym, ap, ◌∙◌, subst, arith}
+use Rattle.std.specs.Prelude.{int_le, unsigned_abs}
 use Rattle.std.proofs.lemmas.Bool.{false≢true}
 use Rattle.std.proofs.lemmas.Int.{ints}
 use Rattle.array_rows.specs.Boxes.{by_pairs, is_between}
 use Rattle.array_rows.specs.Rows.{Coordinate}
 use Rattle.array_geom.specs.declared.grid.Grid.{Grid}
 use Rattle.array_geom.specs.Geometry.{volume}
-use Rattle.array_geom.specs.Inner.Ranges.{AreLengths, AreLow, IsGrid, IsLow, is_in_grid}
+use Rattle.array_geom.specs.Inner.Ranges.{AreLengths, AreLow, IsGrid, is_in_grid}
 use Rattle.array_geom.proofs.Fronts.{rest, rest_is}
 use Rattle.array_geom.proofs.PlaceLaws.{above}
-use Rattle.array_geom.proofs.TestLaws.{and_both, and_parts, le_from_test, lt_from_test, lt_test}
+use Rattle.array_geom.proofs.TestLaws.{and_both, and_parts, le_from_test, lt_test}
 use Rattle.redimension_exec.specs.Inner.Spans.{HaveSpans, span}
 
 -- ---- boxes

@@ -1,5 +1,5 @@
 -- The places at which rows land.
-use Rattle.std.proofs.Common.{◌≡◌, ℕ, suc, ◌+◌, ◌<◌, ◌≤◌, ℤ, Bool, true, false, cond, List, [], ◌∷◌, ◌++◌, append-nil, append_assoc, map, length, get_or, take, None, Some, Ok, refl, sym, ap, ◌∙◌, subst, arith}
+use Rattle.std.proofs.Common.{◌≡◌, ℕ, suc, ◌+◌, ◌<◌, ◌≤◌, ℤ, Bool, true, false, cond, List, [], ◌∷◌, ◌++◌, append-nil, append_assoc, map, length, get_or, take, None, Ok, refl, sym, ap, ◌∙◌, subst, arith}
 use Rattle.std.proofs.lemmas.List.{get_or-map, length-map, take_all, take_more}
 use Rattle.std.specs.List.{AllByRecursion, AllZip, list_any}
 use Rattle.std.specs.Option.{option_or}
@@ -20,7 +20,6 @@ use Rattle.array_geom.specs.declared.grid.Grid.{Grid}
 use Rattle.array_geom.specs.Geometry.{position_in, volume}
 use Rattle.array_geom.proofs.Fronts.{rest, rest_is}
 use Rattle.array_geom.proofs.PlaceLaws.{coordinate_again}
-use Rattle.array_geom.specs.Inner.Ranges.{is_in_grid}
 use Rattle.logical_plan.specs.Faults.{if_whole}
 use Rattle.logical_plan.specs.Groups.{bad_kind, first_some, number_of}
 use Rattle.logical_plan.specs.Redimension.{Origin, Landed, lands, breaks, target_value, landing_at, landing_of, after_landing, landed, counted_places, alike_so_far}
@@ -31,7 +30,6 @@ use Rattle.redimension_exec.specs.declared.places.places.Place.{Place}
 use Rattle.redimension_exec.specs.Inner.Counting.{has_counted}
 use Rattle.redimension_exec.specs.Inner.Dense.{HasNumbers, IsLandingGrid, IsTargetOf, landed_there}
 use Rattle.redimension_exec.specs.Inner.Places.{origin}
-use Rattle.redimension_exec.specs.Landings.{BeginsAs}
 use Rattle.redimension_exec.proofs.LandingLaws.{begins_numbers, first_length}
 use Rattle.redimension_exec.proofs.LandingsGatherLaws.{landing_free}
 use Rattle.redimension_exec.proofs.TakenLaws.{up_none}

@@ -1,6 +1,5 @@
 -- A chunk that is filled with cells that were found.
-use Rattle.std.proofs.Common.{◌≡◌, ℕ, ◌+◌, true, ◌<◌, ◌≤◌, List, [], ◌∷◌, ◌++◌, length, take, get_or, sym, ap, ◌∙◌, subst, length-append}
-use Rattle.std.proofs.lemmas.List.{take_all, take_more}
+use Rattle.std.proofs.Common.{◌≡◌, ℕ, ◌+◌, true, ◌<◌, List, [], ◌∷◌, ◌++◌, length, take, sym, ap, ◌∙◌, subst, length-append}
 use Rattle.std.specs.List.{AllByRecursion}
 use Rattle.cell_values.specs.declared.datum.Cell.{Cell}
 use Rattle.cell_values.specs.declared.datum.Row.{Row}
@@ -20,7 +19,6 @@ use Rattle.array_parts.proofs.Lists.{rows_in-more}
 use Rattle.area_cells.specs.declared.finding.Found.{Found}
 use Rattle.area_cells.specs.Found.{IsFound, found_cell, found_row, found_rows}
 use Rattle.area_cells.specs.Inner.Filled.{IsFilled}
-use Rattle.area_cells.proofs.FoundLaws.{rows_append}
 
 all_push : (n : ℕ) (xs : List ℕ) (p : ℕ) → AllByRecursion (λ q. q < n) xs → p < n → AllByRecursion (λ q. q < n) (xs ++ p ∷ [])
 all_push n [] p a l = (l, tt)

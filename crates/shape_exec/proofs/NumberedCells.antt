@@ -1,5 +1,5 @@
 -- Cells that were found, numbered from 0, each with its coordinate before its values.
-use Rattle.std.proofs.Common.{◌≡◌, ℕ, zero, suc, ◌+◌, ◌<◌, ◌≤◌, ◌^◌, pos, List, [], ◌∷◌, ◌++◌, length, get_or, map, take, drop, Option, Some, None, Result, Ok, Err, refl, sym, ap, ◌∙◌, subst, arith}
+use Rattle.std.proofs.Common.{◌≡◌, ℕ, zero, suc, ◌+◌, ◌<◌, ◌^◌, pos, List, [], ◌∷◌, ◌++◌, length, get_or, map, take, drop, Option, Some, None, Result, Ok, Err, refl, sym, ap, ◌∙◌, subst, arith}
 use Rattle.std.proofs.lemmas.List.{length-map, map-append, take_more}
 use Rattle.std.specs.Prelude.{IfOk, slice_index_or}
 use Rattle.arrayvec.specs.ArrayVec.{ArrayVec}
@@ -28,7 +28,6 @@ use Rattle.area_cells.specs.declared.finding.Found.{Found}
 use Rattle.area_cells.specs.Found.{found_cell, found_row, found_rows}
 use Rattle.area_cells.proofs.FoundLaws.{left_at}
 use Rattle.logical_plan.specs.Faults.{if_whole}
-use Rattle.logical_plan.specs.Ordered.{numbered}
 use Rattle.logical_plan.specs.ShapeMeant.{unpack_meant}
 use Rattle.logical_plan.specs.ShapeSchemas.{unpack_schema}
 use Rattle.logical_plan.specs.Shapes.{after_cell, unpacked_from, unpack_rows}

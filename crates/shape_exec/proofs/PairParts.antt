@@ -13,8 +13,8 @@ use Rattle.array_rows.specs.Boxes.{bounds_of, is_inside}
 use Rattle.array_rows.specs.Rows.{Coordinate, put_all}
 use Rattle.array_geom.specs.declared.chunk.Chunk.{Chunk}
 use Rattle.array_geom.specs.declared.chunk.ChunkedArray.{ChunkedArray}
-use Rattle.array_geom.specs.Geometry.{ChunkNumber, HasFrame, chunk_of, has_core}
-use Rattle.array_geom.specs.Link.{Is, IsPart, NumbersRise, is_listed}
+use Rattle.array_geom.specs.Geometry.{ChunkNumber, chunk_of, has_core}
+use Rattle.array_geom.specs.Link.{Is, NumbersRise, is_listed}
 use Rattle.array_geom.proofs.NearLemmas.{valid_placed}
 use Rattle.array_geom.proofs.TestLaws.{and_parts}
 use Rattle.array_parts.specs.Cores.{HaveCells, cores_of, meant_by_cores}
@@ -24,7 +24,6 @@ use Rattle.chunk_cells.specs.Inner.Numbers.{numbers_in}
 use Rattle.chunk_cells.proofs.NumberLaws.{all_append}
 use Rattle.chunk_cells.proofs.SortedLaws.{all_listed}
 use Rattle.area_cells.specs.Pieces.{IsPartAt}
-use Rattle.area_cells.proofs.PieceLaws.{has_places}
 use Rattle.exec_box.specs.Inner.Reached.{HaveCores}
 use Rattle.exec_box.proofs.ReachLaws.{all_follow, listed_holds, parts_of_numbers}
 use Rattle.shape_rows.specs.Laws.{SameBounds, SameKinds}

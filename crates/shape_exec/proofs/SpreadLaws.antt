@@ -1,5 +1,5 @@
 -- Cells at all places of their blocks.
-use Rattle.std.proofs.Common.{IsTrue, nat_le, ◌≡◌, ℕ, zero, suc, ◌+◌, ◌-◌, ◌*◌, ◌≤◌, ◌<◌, ◌^◌, ℤ, pos, negsuc, ◌+ℤ◌, ◌-ℤ◌, ◌≤ℤ◌, true, ◌&&◌, List, [], ◌∷◌, ◌++◌, append-nil, append_assoc, map, length, drop, take, get_or, min, Some, None, Result, Ok, Err, refl, sym, ap, ◌∙◌, subst, add-one, arith}
+use Rattle.std.proofs.Common.{IsTrue, nat_le, ◌≡◌, ℕ, zero, suc, ◌+◌, ◌-◌, ◌*◌, ◌≤◌, ◌<◌, ◌^◌, ℤ, pos, negsuc, ◌+ℤ◌, ◌-ℤ◌, ◌≤ℤ◌, true, ◌&&◌, List, [], ◌∷◌, ◌++◌, append-nil, append_assoc, map, length, drop, take, get_or, min, Some, Result, Ok, Err, refl, sym, ap, ◌∙◌, subst, add-one, arith}
 use Rattle.std.proofs.lemmas.Int.{ints}
 use Rattle.std.proofs.lemmas.List.{length-append, take_all, take_more}
 use Rattle.std.specs.Int.{w64, saturate_signed}
@@ -11,11 +11,9 @@ use Rattle.cell_values.specs.declared.datum.Cell.{Cell}
 use Rattle.cell_values.specs.declared.datum.Cell.TheVariants.{Full}
 use Rattle.cell_values.specs.declared.datum.Row.{Row}
 use Rattle.cell_values.specs.declared.memory.Memory.{Memory}
-use Rattle.cell_values.specs.declared.schema.Bounds.{Bounds}
 use Rattle.cell_values.specs.declared.schema.Dimension.{Dimension}
 use Rattle.cell_values.specs.declared.schema.Schema.{Schema}
 use Rattle.cell_values.specs.Schemas.{IsValid}
-use Rattle.array_rows.specs.Arrays.{AreRowsOf, Meant}
 use Rattle.array_rows.specs.Boxes.{bounds_of, by_pairs, is_inside}
 use Rattle.array_rows.specs.Rows.{Coordinate, cell_at, in_order, placed}
 use Rattle.array_rows.proofs.RowsLemmas.{cell_at-first}
@@ -24,19 +22,13 @@ use Rattle.array_geom.specs.Link.{is_listed}
 use Rattle.chunk_cells.specs.Inner.Numbers.{numbers_in}
 use Rattle.exec_box.proofs.ReachLaws.{all_follow}
 use Rattle.order_exec.proofs.AlongLaws.{all_joined}
-use Rattle.array_geom.specs.declared.chunk.ChunkedArray.{ChunkedArray}
 use Rattle.array_geom.specs.Inner.Ranges.{AreNear}
-use Rattle.array_geom.specs.Link.{Is}
 use Rattle.array_geom.proofs.NearLemmas.{valid_placed}
 use Rattle.array_geom.proofs.TestLaws.{and_parts, le_from_test}
-use Rattle.array_parts.specs.Cores.{HaveCells, cores_of, meant_by_cores}
-use Rattle.array_parts.proofs.CoreLaws.{cores_are_rows}
 use Rattle.logical_plan.specs.Places.{count_from, how_many}
-use Rattle.exec_box.proofs.ArraysMadeLaws.{means_whole}
 use Rattle.shape_rows.specs.Laws.{AllEnlarge}
 use Rattle.shape_rows.specs.Pulls.{IsPulled}
-use Rattle.logical_plan.specs.ShapeMeant.{xgrid_meant}
-use Rattle.logical_plan.specs.ShapeSchemas.{enlarged, length_of, xgrid_schema}
+use Rattle.logical_plan.specs.ShapeSchemas.{enlarged, length_of}
 use Rattle.logical_plan.specs.Shapes.{block_of, blocks_back, first_place, last_place, places_between, places_of, spread_over, xgrid_rows}
 use Rattle.logical_plan.specs.Typing.{can_enlarge, enlarges, product_of}
 use Rattle.shape_rows.proofs.TypedLaws.{all_enlarge}

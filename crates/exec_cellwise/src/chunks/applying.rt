@@ -12,7 +12,7 @@ ghost use Rattle.array_parts.specs.Made.{IsPlaced, IsMadeBy};
 ghost use Rattle.exec_cellwise.specs.Inner.Computed.{applied_at};
 
 use crate::chunks::computing::applied_rows;
-use array_geom::{Chunk, Grid, grid_of};
+use array_geom::{Chunk, grid_of};
 use array_parts::{CellChange, Quick, change_chunk};
 use array_rows::{Cells, Form, Rows};
 use cell_values::{Cell, Coord, Datum, List, Margins, Memory, Schema};
@@ -67,41 +67,6 @@ impl CellChange for Apply<'_> {
     }
 }
 
-/// The cells of a chunk that are kept as rows, with the applied values after their own.
-fn applied_cells(grid: &Grid, chunk: &Chunk, values: &[Applied]) -> Result<Option<Cells>, Memory>
-    requires grid { IsGrid grid.now }
-    requires inside { AllByRecursion (λ p. p < volume grid.now.lengths.items) chunk.now.positions }
-    requires each { length chunk.now.cells ≡ length chunk.now.positions }
-    ensures { IfOk result (λ made. IfSome made (λ cells. cells ≡ by_pairs (applied_at grid.now.low.items grid.now.lengths.items values.now) chunk.now.positions chunk.now.cells)) }
-{
-    let places = chunk.positions.as_slice();
-    match chunk.cells.form() {
-        Form::Even(rows) => {
-            let alloc = chunk.positions.allocator();
-            Ok(Some(applied_rows(alloc, values, grid, places, rows)?))
-        }
-        Form::Mixed(_) => Ok(None),
-    }
-}
-
-/// A chunk with other cells.
-fn with_cells(chunk: Chunk, cells: Cells) -> Chunk
-    ensures number { result.at ≡ chunk.at }
-    ensures positions { result.positions ≡ chunk.positions }
-    ensures cells { result.cells ≡ cells }
-{
-    let Chunk {
-        at,
-        positions,
-        cells: _,
-    } = chunk;
-    Chunk {
-        at,
-        positions,
-        cells,
-    }
-}
-
 /// Each cell of a chunk with the applied values after its own. No cell is copied.
 pub fn apply_chunk(
     schema: &Schema,
@@ -116,9 +81,28 @@ pub fn apply_chunk(
         → IfOk result (IsPart schema.now.dimensions margins.now.items (apply_rows values.now rows)) }
 {
     let grid = grid_of(schema, margins, &chunk.at);
-    match applied_cells(&grid, &chunk, values) {
-        Ok(Some(cells)) => Ok(with_cells(chunk, cells)),
-        Ok(None) => change_chunk(schema, margins, chunk, &Apply { values }),
-        Err(Memory) => Err(Memory),
+    let Chunk {
+        at,
+        positions,
+        cells,
+    } = chunk;
+    let alloc = positions.allocator();
+    match cells.into_form() {
+        Form::Even(rows) => match applied_rows(alloc, values, &grid, positions.as_slice(), rows) {
+            Ok(cells) => Ok(Chunk {
+                at,
+                positions,
+                cells,
+            }),
+            Err(Memory) => Err(Memory),
+        },
+        Form::Mixed(cells) => {
+            let mixed = Chunk {
+                at,
+                positions,
+                cells: Cells::from_form(alloc, Form::Mixed(cells)),
+            };
+            change_chunk(schema, margins, mixed, &Apply { values })
+        }
     }
 }

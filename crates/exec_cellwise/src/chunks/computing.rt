@@ -111,16 +111,16 @@ fn computed_rows(
     Ok(Rows::from_columns(columns, places.len()))
 }
 
-/// Rows with the values of others behind their own, as cells.
-fn cells_of_both(alloc: Global, rows: &Rows, more: &Rows) -> Result<Cells, Memory>
-    requires { length more.now ≡ length rows.now }
-    ensures { IfOk result (λ cells. cells ≡ by_pairs behind rows.now more.now) }
+/// Rows with the values of others behind their own, as cells. Columns are moved, and no value is copied.
+fn cells_of_both(alloc: Global, rows: Rows, more: Rows) -> Result<Cells, Memory>
+    requires { length more ≡ length rows }
+    ensures { IfOk result (λ cells. cells ≡ by_pairs behind rows more) }
 {
-    let mut cells = Cells::new(alloc);
-    for k in 0..rows.len() {
-        cells.push_both(rows, k, more, k)?;
+    let mut both = rows;
+    match both.append_columns(more) {
+        Ok(()) => Ok(Cells::from_rows(alloc, both)),
+        Err(Memory) => Err(Memory),
     }
-    Ok(cells)
 }
 
 /// Cells of a chunk, which are rows, with the values of expressions behind their own.
@@ -129,13 +129,15 @@ pub(crate) fn applied_rows(
     values: &[Applied],
     grid: &Grid,
     places: &[u64],
-    rows: &Rows,
+    rows: Rows,
 ) -> Result<Cells, Memory>
     requires grid { IsGrid grid.now }
     requires inside { AllByRecursion (λ p. p < volume grid.now.lengths.items) places.now }
-    requires each { length rows.now ≡ length places.now }
-    ensures { IfOk result (λ cells. cells ≡ by_pairs (applied_at grid.now.low.items grid.now.lengths.items values.now) places.now (map Full rows.now)) }
+    requires each { length rows ≡ length places.now }
+    ensures { IfOk result (λ cells. cells ≡ by_pairs (applied_at grid.now.low.items grid.now.lengths.items values.now) places.now (map Full rows)) }
 {
-    let more = computed_rows(alloc, values, grid, places, rows)?;
-    cells_of_both(alloc, rows, &more)
+    match computed_rows(alloc, values, grid, places, &rows) {
+        Ok(more) => cells_of_both(alloc, rows, more),
+        Err(Memory) => Err(Memory),
+    }
 }

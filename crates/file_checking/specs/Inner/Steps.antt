@@ -1,5 +1,5 @@
 -- The steps of checking a file: a payload, a version, an array, all arrays.
-use Rattle.std.specs.Prelude.{◌≡◌, ℕ, ◌<◌, Bool, true, false, nat_lt, List, [], ◌∷◌, length, map, slice_index, Option, None, Some, is_none, Result, Ok, Err, is_ok, IfOk}
+use Rattle.std.specs.Prelude.{◌≡◌, ℕ, ◌<◌, Bool, true, false, nat_lt, List, length, map, slice_index, Option, None, Some, is_none, Result, Ok, Err, is_ok, IfOk}
 use Rattle.std.specs.List.{AllByRecursion, list_any}
 use Rattle.cell_values.specs.declared.schema.Dimension.{Dimension}
 use Rattle.cell_values.specs.declared.schema.Schema.{Schema}

@@ -23,7 +23,7 @@ use Rattle.agg_states.specs.Stands.{StandsFor}
 use Rattle.agg_states.specs.Inner.Summary.{Summary}
 use Rattle.group_rows.specs.declared.rows.groups.Group.{Group}
 use Rattle.group_rows.specs.Counts.{cells_in}
-use Rattle.group_rows.specs.Grouped.{AreInOrder, ComesBefore, IsGroupOf, states_at}
+use Rattle.group_rows.specs.Grouped.{AreInOrder, IsGroupOf, states_at}
 use Rattle.group_rows.specs.Inner.Places.{place_of}
 use Rattle.redimension_exec.specs.declared.places.places.Place.{Place}
 use Rattle.redimension_exec.specs.Inner.Counting.{has_counted}

@@ -1,4 +1,4 @@
-use Rattle.std.proofs.Common.{◌≡◌, sym, subst, List, ℕ, Option, IfSome, Err}
+use Rattle.std.proofs.Common.{sym, subst, List, ℕ, Option, IfSome, Err}
 use Rattle.page_chain.specs.Opens.{OpensAs}
 use Rattle.file_checking.specs.Inner.Steps.{IsAnswer}
 use Rattle.file_checking.proofs.Opened.{back_cause, back_read, exact_of, never_opened, open_cause, sound_of, stands_of}

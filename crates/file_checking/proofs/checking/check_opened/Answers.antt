@@ -1,4 +1,3 @@
-use Rattle.std.proofs.Common.{◌∙◌}
 use Rattle.page_chain.proofs.RunLemmas.{reads_on}
 use Rattle.file_checking.proofs.Opened.{cause_of, none_found, some_found}
 use Rattle.file_checking.proofs.checking.check_opened.Goals as goal

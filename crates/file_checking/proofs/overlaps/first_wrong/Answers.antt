@@ -1,4 +1,4 @@
-use Rattle.std.proofs.Common.{◌≡◌, ◌+◌, ap, length, arith, refl}
+use Rattle.std.proofs.Common.{ap, length, arith}
 use Rattle.array_geom.specs.Geometry.{overlaps}
 use Rattle.array_geom.specs.Link.{core_rows}
 use Rattle.file_reading.proofs.CatalogLaws.{at_index}

@@ -1,6 +1,5 @@
-use Rattle.std.proofs.Common.{◌≡◌, ◌∙◌, ap, map, List, sym, subst, length}
+use Rattle.std.proofs.Common.{◌∙◌, ap, sym, subst, length}
 use Rattle.std.specs.List.{AllByRecursion}
-use Rattle.array_geom.specs.declared.chunk.Chunk.{Chunk}
 use Rattle.array_geom.specs.Link.{NumbersRise, numbers}
 use Rattle.chunk_rle.specs.Stored.{IsStored}
 use Rattle.file_checking.proofs.PayloadLaws.{are_overlaps}

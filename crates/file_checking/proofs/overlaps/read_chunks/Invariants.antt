@@ -1,4 +1,4 @@
-use Rattle.std.proofs.Common.{◌≡◌, ℕ, List, Some, length, map, take}
+use Rattle.std.proofs.Common.{◌≡◌, ℕ, List, Some, length, take}
 use Rattle.std.specs.List.{AllByRecursion}
 use Rattle.page_chain.specs.Inner.Runs.{OnlyReads}
 use Rattle.array_geom.specs.Link.{numbers}

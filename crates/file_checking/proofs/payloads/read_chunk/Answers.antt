@@ -1,4 +1,3 @@
-use Rattle.std.proofs.Common.{ap}
 use Rattle.file_checking.proofs.PayloadLaws.{is_read, undecoded, unread}
 use Rattle.file_checking.proofs.payloads.read_chunk.Goals as goal
 

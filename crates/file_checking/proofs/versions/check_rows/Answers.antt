@@ -2,7 +2,7 @@ use Rattle.std.proofs.Common.{◌∙◌, sym, subst}
 use Rattle.std.specs.List.{AllByRecursion}
 use Rattle.page_chain.proofs.RunLemmas.{reads_none, reads_on}
 use Rattle.file_checking.specs.Inner.Steps.{IsDirectoryOf, IsRowOf}
-use Rattle.file_checking.proofs.Tests.{all_begin, all_end, all_on, all_stop, cause_since, no_row_left, none_left, row_left}
+use Rattle.file_checking.proofs.Tests.{all_begin, all_end, all_on, all_stop, cause_since, none_left, row_left}
 use Rattle.file_checking.proofs.versions.check_rows.Goals as goal
 
 pub loop-array-init : goal.loop-array-init

@@ -1,4 +1,4 @@
-use Rattle.std.proofs.Common.{◌≡◌, ◌<◌, ◌≤◌, List, length, rules, subst}
+use Rattle.std.proofs.Common.{◌<◌, ◌≤◌, List, length, rules, subst}
 use Rattle.cell_values.specs.declared.datum.Row.{Row}
 use Rattle.logical_plan.specs.Ordered.{rank_cell}
 use Rattle.order_exec.specs.Inner.Ranked.{HoldsFaults, HoldsValues}

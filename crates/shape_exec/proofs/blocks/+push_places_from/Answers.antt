@@ -1,5 +1,5 @@
 use Rattle.std.proofs.Common.{rules}
-use Rattle.shape_exec.proofs.BlockBoxes.{first_enlarges, places_pushed, rest_enlarges}
+use Rattle.shape_exec.proofs.BlockBoxes.{first_enlarges, places_pushed}
 use Rattle.shape_exec.proofs.blocks.+push_places_from.Goals as goal
 
 pub returns-in-len1-up-at : goal.returns-in-len1-up-at

@@ -1,10 +1,10 @@
-use Rattle.std.proofs.Common.{◌≡◌, ◌≤◌, ◌⊎◌, inl, inr, List, length, sym, ◌∙◌, subst, rules, arith}
+use Rattle.std.proofs.Common.{◌≤◌, ◌⊎◌, inl, inr, List, length, sym, subst, arith}
 use Rattle.std.specs.List.{AllByRecursion}
 use Rattle.array_rows.specs.Rows.{IsRising, put_all}
 use Rattle.area_cells.specs.declared.finding.Found.{Found}
 use Rattle.area_cells.specs.Found.{IsFound, found_rows}
 use Rattle.area_cells.specs.Inner.Filled.{IsFilled}
-use Rattle.shape_exec.proofs.MergedCells.{all_merged, merged_further, none_merged}
+use Rattle.shape_exec.proofs.MergedCells.{all_merged, none_merged}
 use Rattle.shape_exec.proofs.found_chunks.chunk_of_both_found.Goals as goal
 use Rattle.shape_exec.proofs.found_chunks.chunk_of_both_found.Goals.{then-merging-test+else-at_right-other, else-merging-test}
 

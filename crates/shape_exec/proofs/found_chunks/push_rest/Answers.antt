@@ -1,4 +1,4 @@
-use Rattle.std.proofs.Common.{◌≡◌, ◌<◌, ◌≤◌, length, refl, ◌∙◌, rules, arith}
+use Rattle.std.proofs.Common.{◌<◌, ◌≤◌, length, refl, ◌∙◌, rules, arith}
 use Rattle.area_cells.proofs.FoundLaws.{found_at}
 use Rattle.shape_exec.proofs.MergedCells.{all_of_rest, one_of_rest}
 use Rattle.shape_exec.proofs.found_chunks.push_rest.Goals as goal

@@ -1,5 +1,4 @@
 use Rattle.std.proofs.Common.{List, sym, ap, ◌∙◌, subst}
-use Rattle.cell_values.specs.declared.datum.Row.{Row}
 use Rattle.array_rows.specs.Boxes.{is_inside, within}
 use Rattle.array_rows.specs.Rows.{IsRising}
 use Rattle.array_rows.proofs.RowSets.{IsRising-rows_where}
@@ -7,7 +6,6 @@ use Rattle.array_geom.specs.declared.chunk.Chunk.{Chunk}
 use Rattle.array_geom.specs.Link.{core_rows}
 use Rattle.array_parts.specs.Cores.{cores_of}
 use Rattle.array_parts.proofs.CoreLaws.{cores_are_rows}
-use Rattle.area_cells.specs.Found.{AreFound}
 use Rattle.chunk_cells.proofs.MergeLaws.{if_ok}
 use Rattle.shape_exec.proofs.FoundChunks.{rows_rise}
 use Rattle.shape_exec.proofs.merging.found_of_side.Goals as goal

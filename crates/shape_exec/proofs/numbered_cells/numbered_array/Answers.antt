@@ -1,10 +1,9 @@
 use Rattle.std.proofs.Common.{◌≡◌, List, Result, Ok, Err, map, sym, ap, ◌∙◌, subst}
-use Rattle.std.specs.Prelude.{IfOk, Option, None, Some}
+use Rattle.std.specs.Prelude.{IfOk}
 use Rattle.cell_values.specs.declared.datum.Broken.{Broken}
 use Rattle.cell_values.specs.declared.datum.Cell.{Cell}
 use Rattle.cell_values.specs.declared.datum.Row.{Row}
 use Rattle.array_rows.specs.Arrays.{AreRowsOf}
-use Rattle.array_geom.specs.declared.chunk.ChunkedArray.{ChunkedArray}
 use Rattle.array_geom.specs.Link.{Is}
 use Rattle.area_cells.specs.Found.{found_rows}
 use Rattle.logical_plan.specs.Ordered.{numbered}

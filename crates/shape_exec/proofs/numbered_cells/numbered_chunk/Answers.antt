@@ -3,7 +3,6 @@ use Rattle.std.proofs.lemmas.List.{length-append, length-map, length-take}
 use Rattle.std.specs.List.{AllByRecursion}
 use Rattle.cell_values.specs.declared.schema.Dimension.{Dimension}
 use Rattle.array_geom.specs.Geometry.{frame_lengths, volume}
-use Rattle.area_cells.specs.Found.{IsFound}
 use Rattle.area_cells.proofs.FoundLaws.{found_at}
 use Rattle.logical_plan.specs.ShapeSchemas.{counting}
 use Rattle.order_exec.proofs.AlongLaws.{all_joined}

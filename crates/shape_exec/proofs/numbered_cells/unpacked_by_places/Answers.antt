@@ -1,4 +1,4 @@
-use Rattle.std.proofs.Common.{◌≡◌, ◌<◌, ◌^◌, IsTrue, List, length, rules, ap, ◌∙◌, sym, subst}
+use Rattle.std.proofs.Common.{◌<◌, ◌^◌, IsTrue, List, length, rules, ap, ◌∙◌, sym, subst}
 use Rattle.std.specs.List.{AllByRecursion}
 use Rattle.cell_values.specs.declared.schema.Schema.{Schema}
 use Rattle.array_rows.specs.Boxes.{is_inside}
@@ -6,7 +6,7 @@ use Rattle.array_geom.specs.declared.chunk.Chunk.{Chunk}
 use Rattle.array_geom.specs.Geometry.{has_core}
 use Rattle.array_geom.specs.Link.{core_rows}
 use Rattle.array_parts.specs.Placed.{HasPlaces}
-use Rattle.area_cells.specs.Found.{IsFound, found_rows}
+use Rattle.area_cells.specs.Found.{found_rows}
 use Rattle.logical_plan.specs.Typing.{first_name}
 use Rattle.order_exec.proofs.AlongLaws.{all_follows}
 use Rattle.order_exec.proofs.HullLaws.{covered_rows}

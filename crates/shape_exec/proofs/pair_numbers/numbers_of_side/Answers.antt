@@ -1,8 +1,5 @@
-use Rattle.std.proofs.Common.{◌≡◌, List, refl, map, subst}
-use Rattle.std.specs.Prelude.{IfOk}
-use Rattle.arrayvec.specs.ArrayVec.{ArrayVec}
+use Rattle.std.proofs.Common.{List, refl, subst}
 use Rattle.cell_values.specs.declared.schema.Dimension.{Dimension}
-use Rattle.array_geom.specs.declared.chunk.Chunk.{Chunk}
 use Rattle.chunk_cells.proofs.MergeLaws.{if_ok}
 use Rattle.shape_exec.specs.Inner.Merged.{ShareChunks}
 use Rattle.shape_exec.proofs.SharedChunks.{shared_cores, shared_listed}

@@ -5,10 +5,10 @@ use Rattle.exec_cellwise.proofs.chunks.computing.applied_rows.Goals as goal
 
 pub cells_of_both-requires : goal.cells_of_both-requires
 cells_of_both-requires c =
-    ap length c.in_ok-more.ensures
-    ∙ pairs_length (values_there c.args.grid.now.low.items c.args.grid.now.lengths.items c.args.values.now) c.args.places.now c.args.rows.now c.requires.each ∙ sym c.requires.each
+    ap length c.in-Ok.ensures
+    ∙ pairs_length (values_there c.args.grid.now.low.items c.args.grid.now.lengths.items c.args.values.now) c.args.places.now c.args.rows c.requires.each ∙ sym c.requires.each
 
-pub returns : goal.returns
-returns c =
-    cells_applied c.args.grid.now.low.items c.args.grid.now.lengths.items c.args.places.now c.args.values.now c.args.rows.now _ c.cells_of_both.result
-    c.in_ok-more.ensures c.cells_of_both.ensures
+pub returns-in-Ok : goal.returns-in-Ok
+returns-in-Ok c =
+    cells_applied c.args.grid.now.low.items c.args.grid.now.lengths.items c.args.places.now c.args.values.now c.args.rows _ c.cells_of_both.result
+    c.in-Ok.ensures c.cells_of_both.ensures

@@ -1,4 +1,4 @@
-use Rattle.std.proofs.Common.{[], ◌∷◌, ◌≤◌, List, length, map, Ok, subst}
+use Rattle.std.proofs.Common.{◌≤◌, List, length, map, Ok, subst}
 use Rattle.array_rows.specs.Boxes.{bounds_of}
 use Rattle.array_geom.specs.declared.chunk.Chunk.{Chunk}
 use Rattle.array_geom.specs.Link.{core_rows}

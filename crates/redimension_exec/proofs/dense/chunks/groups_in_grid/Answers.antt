@@ -1,9 +1,8 @@
-use Rattle.std.proofs.Common.{[], ◌∷◌, ◌≡◌, ℕ, ◌<◌, ◌≤◌, List, length, map, sym, ap, ◌∙◌, subst}
+use Rattle.std.proofs.Common.{◌≡◌, ◌≤◌, List, length, map, sym, subst}
 use Rattle.std.specs.List.{AllByRecursion, AllZip}
 use Rattle.cell_values.specs.declared.datum.Row.{Row}
 use Rattle.array_geom.specs.Geometry.{core, volume}
-use Rattle.array_geom.specs.Link.{chunk_rows, core_rows}
-use Rattle.agg_states.specs.Inner.Summary.{Summary}
+use Rattle.array_geom.specs.Link.{chunk_rows}
 use Rattle.group_rows.specs.Counts.{cells_in}
 use Rattle.redimension_exec.specs.Inner.Dense.{AreTargetsIn, IsColumn, landed_there}
 use Rattle.redimension_exec.specs.Inner.Places.{origin}

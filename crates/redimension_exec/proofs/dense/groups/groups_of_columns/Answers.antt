@@ -1,4 +1,4 @@
-use Rattle.std.proofs.Common.{◌∙◌, arith}
+use Rattle.std.proofs.Common.{arith}
 use Rattle.redimension_exec.proofs.GridGroups.{all_groups, all_places, few_cells, none_yet}
 use Rattle.redimension_exec.proofs.dense.groups.groups_of_columns.Goals as goal
 

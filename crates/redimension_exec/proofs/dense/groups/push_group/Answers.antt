@@ -1,5 +1,4 @@
-use Rattle.std.proofs.Common.{◌∙◌, get_or, false, sym}
-use Rattle.redimension_exec.specs.Inner.Dense.{landed_there}
+use Rattle.std.proofs.Common.{◌∙◌, sym}
 use Rattle.redimension_exec.proofs.GridGroups.{group_passed, group_pushed}
 use Rattle.redimension_exec.proofs.dense.groups.push_group.Goals as goal
 

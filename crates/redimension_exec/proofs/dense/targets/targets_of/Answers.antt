@@ -1,4 +1,4 @@
-use Rattle.std.proofs.Common.{get_or, map, sym, ◌∙◌}
+use Rattle.std.proofs.Common.{map}
 use Rattle.redimension_exec.specs.Inner.Places.{origin}
 use Rattle.redimension_exec.proofs.TargetLaws.{all_targets, next_target}
 use Rattle.redimension_exec.proofs.dense.targets.targets_of.Goals as goal
